@@ -1,0 +1,4 @@
+pub mod Ids
+pub mod Graph
+pub mod Stores
+pub mod Served

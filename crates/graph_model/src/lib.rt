@@ -1,0 +1,16 @@
+//! Entities, stores and graphs, and what a storage is asked and answers.
+#![tactic(auto)]
+
+mod ask;
+mod entity;
+mod graph;
+mod lists;
+mod memory;
+#[cfg(test)]
+mod tests;
+
+pub use ask::{Ask, Reply, StorageFault};
+pub use entity::{Entity, Record, Records, StoreOp};
+pub use graph::{Graph, after, reach};
+pub use lists::{Bytes, Ids};
+pub use memory::NoMemory;

@@ -1,0 +1,12 @@
+//! A table that finds a value by its number, as the id of an object or of a file.
+#![tactic(auto)]
+
+mod memory;
+mod probing;
+mod slot;
+mod table;
+#[cfg(test)]
+mod tests;
+
+pub use memory::NoMemory;
+pub use table::OidTable;
