@@ -1,0 +1,4 @@
+pub mod Files
+pub mod Inventory
+pub mod Kept
+pub mod Transactions
