@@ -1,0 +1,7 @@
+//! Whole runs over sources, sinks and disks in memory, with the answers that they must give.
+#![tactic(auto)]
+
+#[cfg(test)]
+mod letters;
+#[cfg(test)]
+mod tests;

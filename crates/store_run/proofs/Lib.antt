@@ -1,0 +1,16 @@
+pub mod Bound
+pub mod Numbered
+pub mod ScriptLines
+pub mod TurnCuts
+pub mod Answered
+pub mod Others
+pub mod EntityBytes
+pub mod StoreBytes
+pub mod Stores
+pub mod Follows
+pub mod Acknowledged
+pub mod Opening
+pub mod Promise
+pub mod OneReading
+pub mod Endings
+pub mod OneDisk

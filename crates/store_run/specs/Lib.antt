@@ -1,0 +1,12 @@
+pub mod Lines
+pub mod Script
+pub mod Plain
+pub mod Answer
+pub mod Run
+pub mod Top
+pub mod Words
+pub mod Progress
+pub mod Code
+pub mod Kept
+pub mod Opened
+pub mod Stored

@@ -1,0 +1,36 @@
+-- The lines of a text.
+use Rattle.std.specs.Prelude.{◌≡◌, ℕ, ◌==◌, false, if◌then◌else◌, List, [], ◌∷◌, ◌++◌}
+
+-- one byte more in front of the first line, or of a line that begins with it
+abbrev pub with_first : ℕ → List (List ℕ) → List (List ℕ)
+with_first b [] = (b ∷ []) ∷ []
+with_first b (line ∷ lines) = (b ∷ line) ∷ lines
+
+-- A line ends with a line feed, which is no part of it. A last line without one counts where it has a byte.
+abbrev pub lines_of : List ℕ → List (List ℕ)
+lines_of [] = []
+lines_of (b ∷ bytes) = if b == 10 then [] ∷ lines_of bytes else with_first b (lines_of bytes)
+
+-- one byte more in front of the first line, if there is one
+abbrev pub with_front : ℕ → List (List ℕ) → List (List ℕ)
+with_front b [] = []
+with_front b (line ∷ lines) = (b ∷ line) ∷ lines
+
+-- the lines that a line feed ends
+abbrev pub whole_lines : List ℕ → List (List ℕ)
+whole_lines [] = []
+whole_lines (b ∷ bytes) = if b == 10 then [] ∷ whole_lines bytes else with_front b (whole_lines bytes)
+
+-- each line, with its line feed
+abbrev pub ended : List (List ℕ) → List ℕ
+ended [] = []
+ended (line ∷ lines) = line ++ 10 ∷ ended lines
+
+-- no byte of it is a line feed
+abbrev pub HasNoFeed : List ℕ → Type 0
+HasNoFeed [] = Unit {0}
+HasNoFeed (b ∷ bytes) = ((b == 10) ≡ false) × HasNoFeed bytes
+
+abbrev pub AllHaveNoFeed : List (List ℕ) → Type 0
+AllHaveNoFeed [] = Unit {0}
+AllHaveNoFeed (line ∷ lines) = HasNoFeed line × AllHaveNoFeed lines
