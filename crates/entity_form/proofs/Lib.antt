@@ -1,0 +1,5 @@
+pub mod ValueReading
+pub mod Forms
+pub mod Spellings
+pub mod Sizes
+pub mod DefaultKinds

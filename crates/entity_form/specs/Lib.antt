@@ -1,0 +1,5 @@
+pub mod Values
+pub mod Reading
+pub mod Faults
+pub mod Form
+pub mod Spelling
