@@ -1,0 +1,27 @@
+//! The core: the steps of channels, monitor and hands as a machine without disks or threads, and what they keep.
+#![tactic(auto)]
+
+mod counting;
+mod event;
+mod flags;
+mod laws;
+mod marking;
+mod sets;
+mod state;
+#[cfg(test)]
+mod tests;
+mod unit;
+
+pub use counting::{begin_cycle, close_cycle, report_begun, report_swept, reserve, return_credit};
+pub use event::{Event, Step};
+pub use flags::Flags;
+pub use laws::{
+    cores_stay_good, cores_stay_settled, good_cores_tell, quiet_cycles_leave_the_reached,
+    runs_go_on, steps_change_one_shard, workers_leave_stores,
+};
+pub use marking::{Pair, begin_mark, deliver, mark_some};
+pub use state::{
+    Book, Channels, CoreChannel, CoreMonitor, CoreState, HandState, Hands, OpenStore, Phase, Place,
+    Stores,
+};
+pub use unit::{CoreUnit, Ending, EventKind};
