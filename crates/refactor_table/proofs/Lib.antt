@@ -1,0 +1,3 @@
+pub mod NameReading
+pub mod Indexes
+pub mod Rows
