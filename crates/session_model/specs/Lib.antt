@@ -1,0 +1,5 @@
+pub mod Commands
+pub mod Types
+pub mod Instances
+pub mod Loading
+pub mod Answer
