@@ -1,0 +1,3 @@
+pub mod SparseLemmas
+pub mod TallyLemmas
+pub mod TotalLemmas

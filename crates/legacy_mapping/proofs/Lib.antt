@@ -1,0 +1,5 @@
+pub mod PositionLemmas
+pub mod SourceLemmas
+pub mod Lists
+pub mod Plans
+pub mod Conversions

@@ -1,0 +1,4 @@
+pub mod Sources
+pub mod Positions
+pub mod Conversion
+pub mod Faults
