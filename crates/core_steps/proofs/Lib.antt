@@ -1,4 +1,5 @@
 pub mod Lists
+pub mod IdLists
 pub mod Glue
 pub mod Moves
 pub mod Marked
@@ -24,4 +25,7 @@ pub mod Actors
 pub mod Workers
 pub mod Readers
 pub mod Ordered
+pub mod StepCalls
+pub mod Refused
+pub mod StartGraphs
 pub mod Rows

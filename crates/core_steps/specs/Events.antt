@@ -1,5 +1,5 @@
 -- The seventeen events.
-use Rattle.std.specs.Prelude.{ℕ, Bool, true, false, List}
+use Rattle.std.specs.Prelude.{Bool, true, false}
 pub use Rattle.core_steps.specs.declared.event.Event.{Event}
 pub use Rattle.core_steps.specs.declared.event.Event.TheVariants.{Reserve, Return, BeginCycle, BeginMark, MarkSome, Deliver, ReportBegun, CloseCycle, SweepSome, ReportSwept, StoreBegin, StorePart, StoreEnd, Confirm, Pin, Unpin, Tidy}
 pub use Rattle.core_steps.specs.declared.event.Step.{Step}

@@ -9,7 +9,7 @@ use crate::state::{CoreMonitor, HandState};
 const CREDIT_LIMIT: u64 = 1 << 32;
 
 /// The hand sees the cycle, its closing and the ended stores.
-fn seen(monitor: CoreMonitor, mut hand: HandState) -> (CoreMonitor, HandState)
+pub(crate) fn seen(monitor: CoreMonitor, mut hand: HandState) -> (CoreMonitor, HandState)
     ensures { result ≡ seeing monitor hand }
 {
     hand.cycle_seen = monitor.cycle;
@@ -18,6 +18,7 @@ fn seen(monitor: CoreMonitor, mut hand: HandState) -> (CoreMonitor, HandState)
     (monitor, hand)
 }
 
+/// The event Reserve on the monitor. Its clause says where it is allowed, and what it makes of monitor and hand.
 pub fn reserve(
     mut monitor: CoreMonitor,
     mut hand: HandState,
@@ -34,6 +35,7 @@ pub fn reserve(
     Some(seen(monitor, hand))
 }
 
+/// The event Return on the monitor. Its clause says where it is allowed, and what it makes of monitor and hand.
 pub fn return_credit(
     mut monitor: CoreMonitor,
     mut hand: HandState,
@@ -49,6 +51,7 @@ pub fn return_credit(
     Some(seen(monitor, hand))
 }
 
+/// The event BeginCycle on the monitor. Its clause says where it is allowed, and what it makes of monitor and hand.
 pub fn begin_cycle(mut monitor: CoreMonitor, hand: HandState) -> Option<(CoreMonitor, HandState)>
     ensures { result ≡ monitor_step monitor hand Event.BeginCycle }
 {
@@ -62,6 +65,7 @@ pub fn begin_cycle(mut monitor: CoreMonitor, hand: HandState) -> Option<(CoreMon
     Some(seen(monitor, hand))
 }
 
+/// The event CloseCycle on the monitor. Its clause says where it is allowed, and what it makes of monitor and hand.
 pub fn close_cycle(mut monitor: CoreMonitor, hand: HandState) -> Option<(CoreMonitor, HandState)>
     ensures { result ≡ monitor_step monitor hand Event.CloseCycle }
 {
@@ -73,6 +77,7 @@ pub fn close_cycle(mut monitor: CoreMonitor, hand: HandState) -> Option<(CoreMon
     Some(seen(monitor, hand))
 }
 
+/// The event ReportBegun on the monitor. Its clause says where it is allowed, and what it makes of monitor and hand.
 pub fn report_begun(
     mut monitor: CoreMonitor,
     mut hand: HandState,
@@ -88,6 +93,7 @@ pub fn report_begun(
     Some(seen(monitor, hand))
 }
 
+/// The event ReportSwept on the monitor. Its clause says where it is allowed, and what it makes of monitor and hand.
 pub fn report_swept(
     mut monitor: CoreMonitor,
     mut hand: HandState,

@@ -5,9 +5,16 @@ mod counting;
 mod event;
 mod flags;
 mod laws;
+mod machine;
 mod marking;
+mod permission;
+mod runs;
 mod sets;
+mod shard;
+mod starting;
 mod state;
+mod storing;
+mod sweeping;
 #[cfg(test)]
 mod tests;
 mod unit;
@@ -19,9 +26,16 @@ pub use laws::{
     cores_stay_good, cores_stay_settled, good_cores_tell, quiet_cycles_leave_the_reached,
     runs_go_on, steps_change_one_shard, workers_leave_stores,
 };
+pub use machine::step;
 pub use marking::{Pair, begin_mark, deliver, mark_some};
+pub use permission::{is_valid_store, may_hold, permits};
+pub use runs::{RunFault, check_run};
+pub use shard::{channel_step, monitor_step};
+pub use starting::{new_hand, start};
 pub use state::{
     Book, Channels, CoreChannel, CoreMonitor, CoreState, HandState, Hands, OpenStore, Phase, Place,
     Stores,
 };
+pub use storing::{confirm, pin, store_begin, store_end, store_part, tidy, unpin};
+pub use sweeping::sweep_some;
 pub use unit::{CoreUnit, Ending, EventKind};

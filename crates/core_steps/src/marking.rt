@@ -1,7 +1,7 @@
 // Events that mark: a channel begins, follows edges, and takes ids from other channels.
-ghost use Rattle.std.specs.Prelude.{◌≡◌, ◌≤◌, ◌<◌, ◌+◌, ◌^◌, length, Some, IfOk, IfSome};
+ghost use Rattle.std.specs.Prelude.{◌≡◌, ◌≤◌, ◌<◌, ◌+◌, ◌^◌, IfOk, IfSome};
 ghost use Rattle.core_steps.specs.Core.{is_marking};
-ghost use Rattle.core_steps.specs.Rows.{is_white, greyed, roots, begin_mark, mark_edge, mark_edges, may_mark, mark_one, deliver_one, channel_step};
+ghost use Rattle.core_steps.specs.Rows.{is_white, greyed, roots, mark_edge, mark_edges, may_mark, mark_one, deliver_one, channel_step};
 
 use crate::event::Event;
 use crate::sets::edges_of;
@@ -25,7 +25,7 @@ fn is_white(channel: &CoreChannel, id: u64) -> bool
 }
 
 /// Marks and greys an id for one credit.
-fn greyed(pair: Pair, id: u64) -> Result<Pair, NoMemory>
+pub(crate) fn greyed(pair: Pair, id: u64) -> Result<Pair, NoMemory>
     ensures { IfOk result (λ made. made ≡ greyed id pair) }
 {
     let (mut channel, mut hand) = pair;
@@ -50,6 +50,7 @@ fn roots(alloc: Global, channel: &CoreChannel) -> Result<Ids, NoMemory>
     Ok(Ids::new(found))
 }
 
+/// The event BeginMark on a channel. Its clause says where it is allowed, and what it makes of channel and hand.
 pub fn begin_mark(alloc: Global, place: &Place, pair: Pair) -> Result<Option<Pair>, NoMemory>
     ensures { IfOk result (λ made. made ≡ channel_step place.now pair.0 pair.1 Event.BeginMark) }
 {
@@ -131,6 +132,7 @@ fn is_marking(channel: &CoreChannel) -> bool
     matches!(channel.phase, Phase::Marking(_))
 }
 
+/// The event MarkSome on a channel. Its clause says where it is allowed, and what it makes of channel and hand.
 pub fn mark_some(
     alloc: Global,
     place: &Place,
@@ -173,6 +175,7 @@ fn deliver_one(place: &Place, pair: Pair, id: u64) -> Result<Option<Pair>, NoMem
     Ok(Some((channel, hand)))
 }
 
+/// The event Deliver on a channel. Its clause says where it is allowed, and what it makes of channel and hand.
 pub fn deliver(place: &Place, pair: Pair, ids: &Ids) -> Result<Option<Pair>, NoMemory>
     requires channels { 0 < place.now.channels }
     requires credit { pair.1.credit ≤ 2 ^ 33 }

@@ -1,7 +1,8 @@
-ghost use Rattle.std.specs.Prelude.{◌≡◌};
+ghost use Rattle.std.specs.Prelude.{◌≡◌, ◌++◌, [], ◌∷◌, set, slice_get, option_copied, OnOk, OnErr};
 
 use crate::flags::Flags;
-use graph_model::{Graph, Ids, Records, StoreOp};
+use graph_model::{Graph, Ids, NoMemory, Records, StoreOp};
+use std::alloc::Global;
 use std::marker::Model;
 
 /// Where a channel stands in the collection cycles: it is done with that cycle, or marks in it, or sweeps in it, with the ids left to visit.
@@ -89,6 +90,27 @@ impl Channels {
     {
         self.items.as_slice()
     }
+
+    /// The channel of a number.
+    pub fn get(&self, place: usize) -> Option<&CoreChannel>
+        ensures { option_copied result ≡ slice_get self.now place }
+    {
+        self.items.get(place)
+    }
+
+    /// Puts a value in the stead of the one at the place. Past the last nothing changes.
+    pub(crate) fn set(&mut self, place: usize, value: CoreChannel)
+        ensures { self.new ≡ set self.old place value }
+    {
+        if let Some(item) = self.items.get_mut(place) {
+            *item = value;
+        }
+    }
+
+    /// What the channels are allocated with.
+    pub(crate) fn allocator(&self) -> Global {
+        *self.items.allocator()
+    }
 }
 
 /// The hands by actor, which contracts see as a list.
@@ -118,6 +140,22 @@ impl Hands {
     {
         self.items.as_slice()
     }
+
+    /// The hand of an actor.
+    pub fn get(&self, place: usize) -> Option<&HandState>
+        ensures { option_copied result ≡ slice_get self.now place }
+    {
+        self.items.get(place)
+    }
+
+    /// Puts a value in the stead of the one at the place. Past the last nothing changes.
+    pub(crate) fn set(&mut self, place: usize, value: HandState)
+        ensures { self.new ≡ set self.old place value }
+    {
+        if let Some(item) = self.items.get_mut(place) {
+            *item = value;
+        }
+    }
 }
 
 /// Stores in order, which contracts see as a list.
@@ -146,6 +184,21 @@ impl Stores {
         ensures { result.now ≡ self.now }
     {
         self.items.as_slice()
+    }
+
+    pub(crate) fn as_vec(&self) -> &Vec<StoreOp>
+        ensures { result.now.items ≡ self.now }
+    {
+        &self.items
+    }
+
+    /// Puts a store behind the last. With no memory nothing changes.
+    pub(crate) fn push(&mut self, op: StoreOp) -> Result<(), NoMemory>
+        ensures ok { OnOk result (self.new ≡ self.old ++ op ∷ []) }
+        ensures err { OnErr result (self.new ≡ self.old) }
+    {
+        self.items.push(op)?;
+        Ok(())
     }
 }
 
