@@ -5,7 +5,7 @@ use Rattle.std.proofs.lemmas.Bool.{cases_lt}
 use Rattle.std.proofs.lemmas.Option.{slice_get-map, slice_get_within, slice_get_read}
 use Rattle.refactor_table.specs.Index.{row_of, IsIndexOf, IsSameIndex, PutsRow}
 use Rattle.refactor_table.specs.Names.{AreOfOneForm}
-use Rattle.refactor_table.specs.Pairs.{pair_of, Leads, Clashes, ClashesAt, IsFirstClash, IsFresh, earlier_of}
+use Rattle.refactor_table.specs.Pairs.{pair_of, Leads, Clashes, ClashesAt, IsFirstClash, IsFresh, AreSound, earlier_of}
 use Rattle.refactor_table.specs.Table.{olds, news, IsTable}
 use Rattle.refactor_table.specs.declared.index.NameIndex.{NameIndex}
 use Rattle.refactor_table.specs.declared.name.Pair.{Pair}
@@ -180,3 +180,20 @@ no_pair f rows index is old new none leads =
 -- a row with these two names
 pub leads_at : (rows : List Pair) (old new : RefName) (k : ℕ) (pair : Pair) → slice_get rows k ≡ Some pair → pair.old ≡ old → pair.new ≡ new → Leads rows old new
 leads_at rows old new k pair at is_old is_new = (k, at ∙ rw (← is_old, ← is_new) refl)
+
+-- ---- what the indexes say of all rows
+
+own_name : (f : Pair → RefName) (rows : List Pair) (index : NameIndex) → IsIndexOf (map f rows) index → (j k : ℕ) (row other : Pair)
+    → slice_get rows j ≡ Some row → slice_get rows k ≡ Some other → f row ≡ f other → j ≡ k
+own_name f rows index is j k row other here there same =
+    let first = row_finds f rows index is row j here in
+    let second = row_finds f rows index is other k there in
+    let one : row_of index (f row) ≡ row_of index (f other) = ap (row_of index) same in
+    cc
+
+pub sound : (rows : List Pair) (by_old by_new : NameIndex) → IsTable rows by_old by_new → AreSound rows
+sound rows by_old by_new table = record {
+  one_form = table.one_form;
+  own_old = own_name (λ p. p.old) rows by_old table.old_rows;
+  own_new = own_name (λ p. p.new) rows by_new table.new_rows;
+}

@@ -1,5 +1,6 @@
 -- A list of pairs: what it has, and which of its rows stands against one more.
 use Rattle.std.specs.Prelude.{◌≡◌, ℕ, ◌<◌, min, List, Option, Some, None, slice_get, IsSomeAnd, ◌⊎◌}
+use Rattle.refactor_table.specs.Names.{AreOfOneForm}
 use Rattle.refactor_table.specs.declared.name.Pair.{Pair}
 use Rattle.refactor_table.specs.declared.name.RefName.{RefName}
 
@@ -32,3 +33,9 @@ abbrev pub earlier_of : Option ℕ → Option ℕ → Option ℕ
 earlier_of None second = second
 earlier_of (Some k) None = Some k
 earlier_of (Some k) (Some l) = Some (min k l)
+
+-- both names of each row are of one form, and no two rows have the same old name or the same new one
+pub record AreSound (pairs : List Pair) : Type 0 where
+  pub one_form : (k : ℕ) (row : Pair) → slice_get pairs k ≡ Some row → AreOfOneForm row.old row.new
+  pub own_old : (j k : ℕ) (row other : Pair) → slice_get pairs j ≡ Some row → slice_get pairs k ≡ Some other → row.old ≡ other.old → j ≡ k
+  pub own_new : (j k : ℕ) (row other : Pair) → slice_get pairs j ≡ Some row → slice_get pairs k ≡ Some other → row.new ≡ other.new → j ≡ k

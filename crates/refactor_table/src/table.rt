@@ -3,7 +3,7 @@
 ghost use Rattle.std.specs.Prelude.{◌≡◌, ◌++◌, ◌∷◌, [], List, ℕ, IfSome, IfNone, IfErr, IsSomeAnd, OnOk, OnErr};
 ghost use Rattle.refactor_table.specs.Faults.{StandsAgainst};
 ghost use Rattle.refactor_table.specs.Names.{AreOfOneForm};
-ghost use Rattle.refactor_table.specs.Pairs.{IsFirstClash, IsFresh, Leads, earlier_of, pair_of};
+ghost use Rattle.refactor_table.specs.Pairs.{AreSound, IsFirstClash, IsFresh, Leads, earlier_of, pair_of};
 ghost use Rattle.refactor_table.specs.declared.name.RefName.TheVariants.{OfType, OfMember};
 
 use crate::fault::AddFault;
@@ -97,6 +97,7 @@ impl RefactorTable {
     pub fn new_type(&self, old: &Text) -> Option<&Text>
         ensures found { IfSome result (λ new. Leads self.now (OfType old.now) (OfType new.now)) }
         ensures only { (new : List ℕ) → Leads self.now (OfType old.now) (OfType new) → IsSomeAnd result (λ found. found.now ≡ new) }
+        ensures sound { AreSound self.now }
     {
         let row = self.by_old.type_row(old)?;
         let pair = &self.rows[row];
