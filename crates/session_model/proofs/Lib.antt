@@ -1,1 +1,26 @@
 mod Rows
+pub mod SameIds
+pub mod Reached
+pub mod Finding
+pub mod IdLists
+pub mod Gathering
+pub mod Bindings
+pub mod Judging
+pub mod Frames
+pub mod Changing
+pub mod Setting
+pub mod Declaring
+pub mod Naming
+pub mod Storing
+pub mod Forgetting
+pub mod Converting
+pub mod Closures
+pub mod Filling
+pub mod Starting
+pub mod Following
+pub mod Turning
+pub mod Allowing
+pub mod Spelled
+pub mod Holding
+pub mod Staying
+pub mod Asking

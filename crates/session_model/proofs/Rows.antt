@@ -6,6 +6,8 @@ use Rattle.type_desc.specs.Reading.{name_at}
 use Rattle.refactor_table.specs.Reading.{ref_name_at, member_end_at, type_end_at}
 use Rattle.session_model.specs.Answer.{State, Answer, opened, turn_of, and_then, no_answer}
 use Rattle.session_model.specs.Commands.{command_in}
+use Rattle.session_model.specs.Sound.{AreTypes, IsRightGraph}
+use Rattle.std.proofs.Common.{arith}
 
 abbrev answer_in : State → List (List ℕ) → Answer
 answer_in state [] = no_answer
@@ -40,3 +42,10 @@ lines_are_refused_in_order :
     ≡ codes "type 16\nrefused reserved\nnew 1024\nrefused name-taken\nrefused range\nok\nrefused wrong-kind\nrefused no-member\nrefused no-name\nrefused range\nok\nok\nrefused no-root\nrefused no-type\nrefused bad-line\nrefused duplicate\n"
 unfolding digits name_at word_at
 lines_are_refused_in_order = refl
+
+-- the empty store is one that a script may start from
+the_empty_store_is_right : IsRightGraph [] 1024 []
+the_empty_store_is_right = record { order = refl; good_ids = λ x l. absurd cc; forms = λ x entity is. absurd cc; whole = λ x y l edge. absurd cc }
+
+no_types_are_right : AreTypes []
+no_types_are_right = record { most = omega arith; each = λ i desc e. absurd cc }

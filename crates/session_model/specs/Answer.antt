@@ -5,26 +5,22 @@ use Rattle.std.specs.Fmt.{decimal}
 use Rattle.std.specs.Str.{bytes_eq}
 use Rattle.graph_model.specs.Ids.{has}
 use Rattle.graph_model.specs.Graph.{Graph, lists, entity_size, after}
-use Rattle.graph_model.specs.declared.entity.Entity.{Entity}
 use Rattle.graph_model.specs.declared.entity.Record.{Record}
 use Rattle.graph_model.specs.declared.entity.StoreOp.{StoreOp}
 use Rattle.type_desc.specs.Grammar.{record_text}
 use Rattle.type_desc.specs.declared.desc.Kind.{Kind}
-use Rattle.type_desc.specs.declared.desc.Kind.TheVariants as kinds
-use Rattle.type_desc.specs.declared.desc.Member.{Member}
 use Rattle.type_desc.specs.declared.desc.TypeDesc.{TypeDesc}
 use Rattle.entity_form.specs.Reading.{values_at}
 use Rattle.entity_form.specs.Values.{kinds_of, default_of, entity_of}
-use Rattle.entity_form.specs.declared.value.Object.{Object}
 use Rattle.entity_form.specs.declared.value.Value.{Value}
 use Rattle.entity_form.specs.declared.value.Value.TheVariants.{Int, Text, Bytes, Ref, Lazy, Refs}
 use Rattle.refactor_table.specs.declared.name.Pair.{Pair}
 use Rattle.refactor_table.specs.declared.name.RefName.{RefName}
-use Rattle.refactor_table.specs.declared.name.RefName.TheVariants.{OfType, OfMember}
+use Rattle.refactor_table.specs.declared.name.RefName.TheVariants.{OfMember}
 use Rattle.graph_export.specs.Line.{line}
 use Rattle.session_model.specs.Commands as cmd
 use Rattle.session_model.specs.Commands.{Command, Target, command_of, integer_of}
-use Rattle.session_model.specs.Types.{root_type, is_root_type, desc_of, latest_id, latest_desc, desc_at, is_same_desc, member_index, kind_at, kind_of_member, is_same_kind, repeats_member, is_same_ref_name, type_in}
+use Rattle.session_model.specs.Types.{root_type, is_root_type, desc_of, latest_id, latest_desc, is_same_desc, member_index, kind_of_member, is_same_kind, repeats_member, is_same_ref_name, type_in}
 use Rattle.session_model.specs.Instances.{Instance, Instances, Held, instance_at, has_instance, put_instance, held_ids, reached, gathered_lazily, gathered_eagerly, kept_instances}
 use Rattle.session_model.specs.Loading.{load, values_in}
 

@@ -1,9 +1,8 @@
 -- The objects in memory, and the walks over them.
-use Rattle.std.specs.Prelude.{ℕ, zero, suc, ◌==◌, ◌&&◌, ◌||◌, not, Bool, true, false, if◌then◌else◌, Option, Some, None, is_some, nat_lt, List, [], ◌∷◌, ◌++◌, map, length}
+use Rattle.std.specs.Prelude.{ℕ, zero, suc, ◌==◌, not, Bool, false, if◌then◌else◌, Option, Some, None, is_some, nat_lt, List, [], ◌∷◌, map, length}
 use Rattle.std.specs.List.{filter, flat_map}
 use Rattle.graph_model.specs.Ids.{has, add_all}
 use Rattle.graph_model.specs.Graph.{Graph, entity_of, edges_of}
-use Rattle.graph_model.specs.declared.entity.Record.{Record}
 use Rattle.entity_form.specs.declared.value.Object.{Object}
 use Rattle.entity_form.specs.declared.value.Value.{Value}
 use Rattle.entity_form.specs.declared.value.Value.TheVariants.{Int, Text, Bytes, Ref, Lazy, Refs}

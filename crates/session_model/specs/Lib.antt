@@ -2,4 +2,5 @@ pub mod Commands
 pub mod Types
 pub mod Instances
 pub mod Loading
+pub mod Sound
 pub mod Answer

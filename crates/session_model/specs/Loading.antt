@@ -1,8 +1,8 @@
 -- What becomes of a stored entity in memory, and the closure that is loaded with an id.
-use Rattle.std.specs.Prelude.{ℕ, ◌&&◌, not, Bool, true, false, if◌then◌else◌, Option, Some, None, Result, Ok, Err, is_some, List, [], ◌∷◌, codes, map, slice_get, unwrap_or}
+use Rattle.std.specs.Prelude.{ℕ, not, true, false, if◌then◌else◌, Option, Some, None, Result, Ok, Err, List, [], ◌∷◌, codes, map, slice_get, unwrap_or}
 use Rattle.std.specs.List.{filter, flat_map}
 use Rattle.graph_model.specs.Ids.{has}
-use Rattle.graph_model.specs.Graph.{Graph, lists}
+use Rattle.graph_model.specs.Graph.{Graph}
 use Rattle.graph_model.specs.declared.entity.Entity.{Entity}
 use Rattle.graph_model.specs.declared.entity.Record.{Record}
 use Rattle.type_desc.specs.declared.desc.TypeDesc.{TypeDesc}
@@ -13,7 +13,7 @@ use Rattle.entity_form.specs.declared.value.Object.{Object}
 use Rattle.entity_form.specs.declared.value.Value.{Value}
 use Rattle.refactor_table.specs.declared.name.Pair.{Pair}
 use Rattle.session_model.specs.Types.{desc_of, latest_id, latest_desc, target_name, sources_of, all_of_kinds}
-use Rattle.session_model.specs.Instances.{Instance, Instances, put_instance, has_instance, eager_refs_of, reached}
+use Rattle.session_model.specs.Instances.{Instances, put_instance, has_instance, eager_refs_of, reached}
 
 -- an object of the latest type; or why there is none
 pub data Converted : Type 0 where
