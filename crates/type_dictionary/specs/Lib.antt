@@ -1,0 +1,6 @@
+pub mod OwnNames
+pub mod Latest
+pub mod Records
+pub mod Kept
+pub mod Declaring
+pub mod Faults
