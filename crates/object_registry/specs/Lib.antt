@@ -1,0 +1,4 @@
+pub mod Bindings
+pub mod References
+pub mod Registered
+pub mod Entries

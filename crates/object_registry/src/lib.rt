@@ -1,0 +1,21 @@
+//! The names that a session has bound, and the objects that it holds in memory.
+#![tactic(auto)]
+
+mod fault;
+mod forgetting;
+mod instance;
+mod loaded;
+mod names;
+mod references;
+mod registry;
+mod table;
+#[cfg(test)]
+mod tests;
+mod walking;
+
+pub use fault::BindFault;
+pub use forgetting::Forgotten;
+pub use instance::Instance;
+pub use loaded::Loaded;
+pub use registry::Registry;
+pub use walking::{Edges, walk};
