@@ -1,0 +1,12 @@
+//! What a store of a session takes: the objects that a walk gathers, as entities.
+#![tactic(auto)]
+
+mod edges;
+mod fault;
+mod gathering;
+mod recording;
+#[cfg(test)]
+mod tests;
+
+pub use fault::GatherFault;
+pub use gathering::{gather_eager, gather_lazy};
