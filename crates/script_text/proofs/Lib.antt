@@ -1,0 +1,15 @@
+pub mod DigitReaders
+pub mod DigitValues
+pub mod KeywordReaders
+pub mod WordReaders
+pub mod MemberReaders
+pub mod MemberLoops
+pub mod WordValues
+pub mod RowValues
+pub mod PlainWords
+pub mod LineWords
+pub mod RestSteps
+pub mod RestReaders
+pub mod ArgumentReaders
+pub mod LineReaders
+pub mod GivenValues
