@@ -1,0 +1,10 @@
+-- Lemmas on the chunks of a channel and the images of its disk.
+pub mod Within
+pub mod Changes
+pub mod Appended
+pub mod Written
+pub mod Tables
+pub mod Allowed
+pub mod Refusals
+pub mod OtherFiles
+pub mod AtOk

@@ -1,0 +1,9 @@
+pub mod Chunks
+pub mod Table
+pub mod Channel
+pub mod Images
+pub mod Shows
+pub mod Heads
+pub mod Stores
+pub mod Faults
+pub mod Outcomes
