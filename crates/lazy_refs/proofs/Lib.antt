@@ -1,0 +1,12 @@
+pub mod Alike
+pub mod Finding
+pub mod Naming
+pub mod Sourcing
+pub mod Applying
+pub mod Waiting
+pub mod Turning
+pub mod Orders
+pub mod Refusing
+pub mod Taking
+pub mod Loads
+pub mod Ending

@@ -1,0 +1,4 @@
+pub mod Forms
+pub mod Mappings
+pub mod Walks
+pub mod Steps

@@ -1,0 +1,157 @@
+//! Examples of loadings.
+
+ghost use Rattle.std.specs.Prelude.{OnOk};
+ghost use Rattle.lazy_refs.specs.Mappings.{AreMappings};
+
+use crate::{LoadStep, Loading};
+use entity_form::{Object, Value};
+use graph_model::{Bytes, Entity, Ids, NoMemory};
+use object_registry::Registry;
+use refactor_table::{AddFault, RefName, RefactorTable};
+use std::alloc::Global;
+use std::test::Fail;
+use type_desc::Text;
+use type_dictionary::{Dictionary, RecordFault};
+
+/// Eight bytes of the number 5.
+const FIVE: [u8; 8] = [5, 0, 0, 0, 0, 0, 0, 0];
+
+/// `Old` is to become `New`, and `Odd` has a member of another kind since.
+fn types(alloc: Global) -> Result<Dictionary, RecordFault> {
+    let mut types = Dictionary::new(alloc);
+    types.add_record(b"16 Old{ref next,int x}")?;
+    types.add_record(b"17 New{int y,int x,ref next}")?;
+    types.add_record(b"18 Odd{int x}")?;
+    types.add_record(b"19 Odd{text x}")?;
+    Ok(types)
+}
+
+/// One type's name became another.
+fn renamed(alloc: Global, old: &str, new: &str) -> Result<RefactorTable, AddFault> {
+    let old = RefName::OfType(Text::new(alloc, old)?);
+    let new = RefName::OfType(Text::new(alloc, new)?);
+    let mut table = RefactorTable::new(alloc);
+    table.add(old, new)?;
+    Ok(table)
+}
+
+fn entity(alloc: Global, type_id: u64, refs: &[u64], plain: &[u8]) -> Result<Entity, NoMemory> {
+    let refs = Ids::new(Vec::from_slice(alloc, refs)?);
+    let plain = Bytes::new(Vec::from_slice(alloc, plain)?);
+    Ok(Entity {
+        type_id,
+        refs,
+        plain,
+    })
+}
+
+/// Whether the loading, given this entity, asks for this id.
+fn asks(
+    loading: &mut Loading,
+    registry: &Registry,
+    types: &Dictionary,
+    table: &RefactorTable,
+    given: Entity,
+    id: u64,
+) -> Result<bool, NoMemory>
+    requires { AreMappings types.now table.now loading.old.mappings }
+    ensures { OnOk result (AreMappings types.now table.now loading.new.mappings) }
+{
+    match loading.next(registry, types, table, Some(given)) {
+        Ok(LoadStep::Want(wanted)) => Ok(wanted == id),
+        Ok(_) => Ok(false),
+        Err(NoMemory) => Err(NoMemory),
+    }
+}
+
+/// Whether the object is one of `New` that names this id, and whose `x` is 5.
+fn is_new(object: &Object, id: u64) -> bool {
+    match object.values.as_slice() {
+        [Value::Int(y), Value::Int(x), Value::Ref(next)] => {
+            object.type_id == 17 && *y == 0 && *x == 5 && *next == id
+        }
+        _ => false,
+    }
+}
+
+/// Whether these are 1024 and 1025, which name one another.
+fn are_two(all: &[(u64, Object)]) -> bool {
+    match all {
+        [first, second] => {
+            first.0 == 1024 && second.0 == 1025 && is_new(&first.1, 1025) && is_new(&second.1, 1024)
+        }
+        _ => false,
+    }
+}
+
+/// Whether 1024 and 1025, of `Old`, which name one another, are loaded.
+fn loads_two(
+    alloc: Global,
+    registry: &Registry,
+    types: &Dictionary,
+    table: &RefactorTable,
+) -> Result<bool, NoMemory> {
+    let first = entity(alloc, 16, &[1025], &FIVE)?;
+    let second = entity(alloc, 16, &[1024], &FIVE)?;
+    let mut loading = Loading::start(alloc, 1024);
+    let asked = asks(&mut loading, registry, types, table, first, 1025)?;
+    match loading.next(registry, types, table, Some(second)) {
+        Ok(LoadStep::Ready(all)) => Ok(asked && are_two(all.as_slice())),
+        Ok(_) => Ok(false),
+        Err(NoMemory) => Err(NoMemory),
+    }
+}
+
+/// The step where 1024 is this entity.
+fn step_with(
+    alloc: Global,
+    registry: &Registry,
+    types: &Dictionary,
+    table: &RefactorTable,
+    given: Entity,
+) -> Result<LoadStep, NoMemory> {
+    let mut loading = Loading::start(alloc, 1024);
+    loading.next(registry, types, table, Some(given))
+}
+
+/// The step where 1024 is of the first type `Odd`, with these bytes.
+fn step_at_odd(alloc: Global, table: &RefactorTable, plain: &[u8]) -> Result<LoadStep, Fail> {
+    let types = types(alloc)?;
+    let registry = Registry::new(alloc)?;
+    let odd = entity(alloc, 18, &[], plain)?;
+    Ok(step_with(alloc, &registry, &types, table, odd)?)
+}
+
+#[test]
+fn loads_two_objects_of_an_old_type(rt: HostRuntime) -> Result<(), Fail> {
+    let alloc = rt.alloc();
+    let types = types(alloc)?;
+    let table = renamed(alloc, "Old", "New")?;
+    let registry = Registry::new(alloc)?;
+    assert!(rt; loads_two(alloc, &registry, &types, &table)?);
+    Ok(())
+}
+
+#[test]
+fn a_target_name_may_have_no_type(rt: HostRuntime) -> Result<(), Fail> {
+    let table = renamed(rt.alloc(), "Odd", "Gone")?;
+    let step = step_at_odd(rt.alloc(), &table, &FIVE)?;
+    assert!(rt; matches!(&step, LoadStep::NoType { id: 1024 }));
+    Ok(())
+}
+
+#[test]
+fn a_member_may_be_of_another_kind(rt: HostRuntime) -> Result<(), Fail> {
+    let table = RefactorTable::new(rt.alloc());
+    let step = step_at_odd(rt.alloc(), &table, &FIVE)?;
+    assert!(rt; matches!(&step, LoadStep::WrongKind { id: 1024 }));
+    Ok(())
+}
+
+#[test]
+fn an_entity_without_its_form_is_broken(rt: HostRuntime) -> Result<(), Fail> {
+    let table = RefactorTable::new(rt.alloc());
+    let step = step_at_odd(rt.alloc(), &table, &[5])?;
+    assert!(rt; matches!(&step, LoadStep::Broken { id: 1024 }));
+    Ok(())
+}
