@@ -1,0 +1,141 @@
+-- The turns of the lines that give a member another value.
+use Rattle.std.proofs.Common.{◌≡◌, ◌<◌, ℕ, Bool, true, false, not, List, [], ◌∷◌, ◌++◌, Option, Some, None, Err, ap, ◌∙◌, sym, subst, length}
+use Rattle.std.specs.Prelude.{codes, is_none, nat_le, unwrap_or, slice_get, IfSome, IsSomeAnd}
+use Rattle.std.proofs.lemmas.Option.{slice_get_within}
+use Rattle.graph_model.specs.Served.{Storage}
+use Rattle.entity_form.specs.declared.value.Value.{Value}
+use Rattle.entity_form.specs.declared.value.Value.TheVariants.{Ref, Refs}
+use Rattle.session_model.specs.Commands.{Target}
+use Rattle.session_model.specs.Instances.{Instance, Instances, instance_at, put_instance}
+use Rattle.session_model.specs.Answer.{State, Turn, Refusal, Given, Fits, Misfits, OutOfRange, Unbound, add_turn, cut_turn, given, given_value, id_of, is_bound, is_out_of_range, is_unbound, judged, member_at, misfits, named_instance, no_name, nothing, ok, out_of_range, refs_in, root_turn, set_turn, set_value, target_id, value_in, value_of, with_value, without_at, wrong_kind}
+use Rattle.session_model.specs.Sound.{IsSound}
+use Rattle.session_model.proofs.Setting.{root_value}
+use Rattle.object_registry.specs.Registered.{Registered, with_member}
+use Rattle.session.specs.declared.changing.Change.{Change}
+use Rattle.session.specs.declared.memory.Memory.{Memory}
+use Rattle.session.specs.declared.refusal.Stop.{Stop}
+use Rattle.session.specs.declared.refusal.Stop.TheVariants.{Refused, NoMemory}
+use Rattle.session.specs.declared.refusal.Refusal.TheVariants as refusals
+use Rattle.session.specs.Changes.{Gives, SetsMember, root_value as root_value_in}
+use Rattle.session.specs.Due.{Answers}
+use Rattle.session.specs.Refusals.{IsRefusal}
+use Rattle.session.specs.Stands.{Stands, StandsAt}
+use Rattle.session.proofs.Found.{Finds, Names, found_goes_on}
+use Rattle.session.proofs.Judged.{judged_first, judged_next}
+use Rattle.session.proofs.Standing.{stands_changed}
+use Rattle.session.proofs.Told.{answers_turn}
+
+-- ---- the change is made
+
+pub apply_answers : (memory : Memory) (registry : Registered) (text : List ℕ) (change : Change) (storage : Storage) (state : State) (turn : Turn) → StandsAt memory storage state → SetsMember change state turn → IsSound turn.state
+    → IfSome (instance_at memory.registry.instances change.id) (λ i. registry.instances ≡ put_instance change.id (with_member i change.index change.value) memory.registry.instances)
+    → registry.names ≡ memory.registry.names → text ≡ codes "ok" ++ 10 ∷ []
+    → Answers text (record memory { registry = registry }) storage turn
+apply_answers memory registry text change storage state turn stands sets sound set names told =
+    answers_turn (codes "ok") text (record memory { registry = registry }) storage (with_value state change.id sets.instance change.index change.value) turn told sets.turn_is
+    (stands_changed memory registry storage state change.id sets.instance change.index change.value stands sets.here
+    (subst (λ (t : Turn). IsSound t.state) sets.turn_is sound) names put)
+  where
+    put : registry.instances ≡ put_instance change.id (with_member sets.instance change.index change.value) memory.registry.instances
+    put = subst (λ (o : Option Instance). IfSome o (λ i. registry.instances ≡ put_instance change.id (with_member i change.index change.value) memory.registry.instances))
+        (ap (λ (hs : Instances). instance_at hs change.id) stands.stands.instances ∙ sets.here) set
+
+-- a place has room for a value
+pub place_fits : (registry : Registered) (id index : ℕ) (i : Instance) (old : Value) → instance_at registry.instances id ≡ Some i → slice_get i.object.values index ≡ Some old
+    → IsSomeAnd (instance_at registry.instances id) (λ j. index < length j.object.values)
+place_fits registry id index i old here value = subst (λ (o : Option Instance). IsSomeAnd o (λ j. index < length j.object.values)) (sym here) (slice_get_within i.object.values index old value)
+
+-- ---- the judging
+
+pub set_value_is : (state : State) (name member : List ℕ) (id : ℕ) (i : Instance) (index : ℕ) (old new : Value) → Finds state name member id i index old
+    → set_value state name member new ≡ with_value state id i index new
+set_value_is state name member id i index old new f =
+    ap (λ (x : ℕ). with_value state x (named_instance state name) (unwrap_or (member_at state (named_instance state name) member) 0) new) f.names.id_is
+    ∙ (ap (λ (j : Instance). with_value state id j (unwrap_or (member_at state j member) 0) new) f.names.instance_is
+    ∙ ap (λ (o : Option ℕ). with_value state id i (unwrap_or o 0) new) f.index_is)
+
+-- the turn is the change of what was found
+pub sets_found : (state : State) (name member : List ℕ) (id : ℕ) (i : Instance) (index : ℕ) (old new : Value) (turn : Turn) → Finds state name member id i index old
+    → turn ≡ ok (set_value state name member new) → SetsMember (record { id = id; index = index; value = new }) state turn
+sets_found state name member id i index old new turn f e = record {
+  instance = i;
+  here = f.names.here;
+  turn_is = e ∙ ap ok (set_value_is state name member id i index old new f);
+}
+
+abbrev set_others : Given → List Refusal
+set_others value = wrong_kind (misfits value) ∷ out_of_range (is_out_of_range value) ∷ no_name (is_unbound value) ∷ []
+
+set_is : (state : State) (name member rest : List ℕ) (id : ℕ) (i : Instance) (index : ℕ) (old : Value) (value : Given) → Finds state name member id i index old → given state rest (Some old) ≡ value
+    → set_turn state name member rest ≡ judged state (set_others value) (ok (set_value state name member (given_value value)))
+set_is state name member rest id i index old value f g =
+    found_goes_on state name member id i index old (set_others (given state rest (value_of state name member))) (ok (set_value state name member (given_value (given state rest (value_of state name member))))) f
+    ∙ ap (λ (v : Given). judged state (set_others v) (ok (set_value state name member (given_value v)))) (ap (given state rest) f.value_is ∙ g)
+
+pub set_made : (state : State) (name member rest : List ℕ) (id : ℕ) (i : Instance) (index : ℕ) (old new : Value) → Finds state name member id i index old → given state rest (Some old) ≡ Fits new
+    → SetsMember (record { id = id; index = index; value = new }) state (set_turn state name member rest)
+set_made state name member rest id i index old new f g = sets_found state name member id i index old new (set_turn state name member rest) f (set_is state name member rest id i index old (Fits new) f g)
+
+pub set_refused : (state : State) (name member rest : List ℕ) (id : ℕ) (i : Instance) (index : ℕ) (old : Value) (stop : Stop) → Finds state name member id i index old
+    → Gives (λ (v : Value). v) (Err stop) (given state rest (Some old)) → IsRefusal state (set_turn state name member rest) stop
+set_refused state name member rest id i index old (Refused refusals.WrongKind) f g = set_is state name member rest id i index old Misfits f g
+set_refused state name member rest id i index old (Refused refusals.Range) f g = set_is state name member rest id i index old OutOfRange f g
+set_refused state name member rest id i index old (Refused refusals.NoName) f g = set_is state name member rest id i index old Unbound f g
+set_refused state name member rest id i index old NoMemory f g = tt
+set_refused state name member rest id i index old _ f g = absurd g
+
+pub add_is : (state : State) (name member : List ℕ) (target : Target) (id : ℕ) (i : Instance) (index : ℕ) (old : Value) (refs : Option (List ℕ)) (to : Option ℕ) → Finds state name member id i index old
+    → refs_in (Some old) ≡ refs → target_id state (Some target) ≡ to
+    → add_turn state name member target ≡ judged state (wrong_kind (is_none refs) ∷ no_name (is_none to) ∷ []) (ok (set_value state name member (Refs (unwrap_or refs [] ++ unwrap_or to 0 ∷ []))))
+add_is state name member target id i index old refs to f g h =
+    found_goes_on state name member id i index old (wrong_kind (is_none (refs_in (value_of state name member))) ∷ no_name (is_none (target_id state (Some target))) ∷ [])
+    (ok (set_value state name member (Refs (unwrap_or (refs_in (value_of state name member)) [] ++ unwrap_or (target_id state (Some target)) 0 ∷ [])))) f
+    ∙ (ap (λ (r : Option (List ℕ)). judged state (wrong_kind (is_none r) ∷ no_name (is_none (target_id state (Some target))) ∷ []) (ok (set_value state name member (Refs (unwrap_or r [] ++ unwrap_or (target_id state (Some target)) 0 ∷ []))))) (ap refs_in f.value_is ∙ g)
+    ∙ ap (λ (t : Option ℕ). judged state (wrong_kind (is_none refs) ∷ no_name (is_none t) ∷ []) (ok (set_value state name member (Refs (unwrap_or refs [] ++ unwrap_or t 0 ∷ []))))) h)
+
+pub cut_is : (state : State) (name member : List ℕ) (at : ℕ) (id : ℕ) (i : Instance) (index : ℕ) (old : Value) (refs : Option (List ℕ)) (beyond : Bool) → Finds state name member id i index old
+    → refs_in (Some old) ≡ refs → nat_le (length (unwrap_or refs [])) at ≡ beyond
+    → cut_turn state name member at ≡ judged state (wrong_kind (is_none refs) ∷ out_of_range beyond ∷ []) (ok (set_value state name member (Refs (without_at (unwrap_or refs []) at))))
+cut_is state name member at id i index old refs beyond f g h =
+    found_goes_on state name member id i index old (wrong_kind (is_none (refs_in (value_of state name member))) ∷ out_of_range (nat_le (length (unwrap_or (refs_in (value_of state name member)) [])) at) ∷ [])
+    (ok (set_value state name member (Refs (without_at (unwrap_or (refs_in (value_of state name member)) []) at)))) f
+    ∙ (ap (λ (r : Option (List ℕ)). judged state (wrong_kind (is_none r) ∷ out_of_range (nat_le (length (unwrap_or r [])) at) ∷ []) (ok (set_value state name member (Refs (without_at (unwrap_or r []) at))))) (ap refs_in f.value_is ∙ g)
+    ∙ ap (λ (b : Bool). judged state (wrong_kind (is_none refs) ∷ out_of_range b ∷ []) (ok (set_value state name member (Refs (without_at (unwrap_or refs []) at))))) h)
+
+-- ---- the root
+
+-- the root is there, and has its member
+pub root_there : (memory : Memory) (storage : Storage) (state : State) → Stands memory storage state → state.started ≡ true
+    → (i : Instance) × (instance_at memory.registry.instances 1 ≡ Some i) × ((v : Value) × (slice_get i.object.values 0 ≡ Some v))
+root_there memory storage state s started =
+    let there = s.sound.root started in
+    let right = s.sound.each 1 there.0 there.1 in
+    let value = root_value state.types there.0.object.type_id right.desc there.0.object.values right.root right.known right.kinds in
+    (there.0, ap (λ (hs : Instances). instance_at hs 1) s.instances ∙ there.1, (value.0, value.1))
+
+pub root_value_there : (memory : Memory) (storage : Storage) (state : State) → Stands memory storage state → state.started ≡ true → root_value_in memory.registry ≡ None → ⊥
+root_value_there memory storage state s started none =
+    let there = root_there memory storage state s started in
+    let is : root_value_in memory.registry ≡ Some there.2.0 = ap (λ (o : Option Instance). value_in (unwrap_or o nothing) (Some 0)) there.1 ∙ there.2.1 in
+    cc
+
+pub root_set : (memory : Memory) (storage : Storage) (state : State) (name : List ℕ) (id : ℕ) (i : Instance) → Stands memory storage state → state.started ≡ true → Names state name id i
+    → SetsMember (record { id = 1; index = 0; value = Ref id }) state (root_turn state name)
+root_set memory storage state name id i s started n = let there = s.sound.root started in record {
+  instance = there.0;
+  here = there.1;
+  turn_is = judged_next state (no_name (not (is_bound state name))) [] (ok (with_value state 1 (unwrap_or (instance_at state.instances 1) nothing) 0 (Ref (id_of state name)))) (ap not n.bound)
+      ∙ (ap (λ (x : ℕ). ok (with_value state 1 (unwrap_or (instance_at state.instances 1) nothing) 0 (Ref x))) n.id_is
+      ∙ ap (λ (o : Option Instance). ok (with_value state 1 (unwrap_or o nothing) 0 (Ref id))) there.1);
+}
+
+pub root_refused : (state : State) (name : List ℕ) → is_bound state name ≡ false → IsRefusal state (root_turn state name) (Refused refusals.NoName)
+root_refused state name unbound = judged_first state (no_name (not (is_bound state name))) [] (ok (with_value state 1 (unwrap_or (instance_at state.instances 1) nothing) 0 (Ref (id_of state name)))) (ap not unbound)
+
+-- the root has room for its member
+pub root_fits : (registry : Registered) (v : Value) → root_value_in registry ≡ Some v → IsSomeAnd (instance_at registry.instances 1) (λ i. 0 < length i.object.values)
+root_fits registry v e = by (instance_at registry.instances 1) e
+  where
+    by : (o : Option Instance) → value_in (unwrap_or o nothing) (Some 0) ≡ Some v → IsSomeAnd o (λ i. 0 < length i.object.values)
+    by None h = absurd cc
+    by (Some i) h = slice_get_within i.object.values 0 v h

@@ -1,0 +1,11 @@
+pub mod Judged
+pub mod Told
+pub mod Found
+pub mod Standing
+pub mod Changed
+pub mod StoreLines
+pub mod BigStores
+pub mod Named
+pub mod Picked
+pub mod Asks
+pub mod Showing

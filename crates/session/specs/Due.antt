@@ -1,0 +1,87 @@
+-- What is still due of a line: a turn of the model, of which the answers, the records and the stores are taken away one after another.
+use Rattle.std.specs.Prelude.{◌≡◌, ℕ, Bool, true, List, [], ◌∷◌, ◌++◌, codes}
+use Rattle.std.specs.Fmt.{decimal}
+use Rattle.graph_model.specs.declared.ask.Ask.{Ask}
+use Rattle.graph_model.specs.declared.ask.Ask.TheVariants as asks
+use Rattle.graph_model.specs.declared.ask.Reply.{Reply}
+use Rattle.graph_model.specs.declared.ask.Reply.TheVariants as replies
+use Rattle.graph_model.specs.Served.{Storage, MayAsk, Served}
+use Rattle.session_model.specs.Answer.{State, Turn, ok, bound, command_turn}
+use Rattle.script_text.specs.Meaning.{meant}
+use Rattle.session.specs.declared.memory.Memory.{Memory}
+use Rattle.session.specs.declared.outcome.Outcome.{Outcome}
+use Rattle.session.specs.declared.outcome.Outcome.TheVariants as outcomes
+use Rattle.session.specs.declared.outcome.Phase.{Phase}
+use Rattle.session.specs.declared.outcome.Phase.TheVariants as phases
+use Rattle.session.specs.declared.outcome.Purpose.{Purpose}
+use Rattle.session.specs.declared.outcome.Purpose.TheVariants as purposes
+use Rattle.session.specs.Stands.{StandsAt}
+
+-- the most bytes of the entities of one store
+abbrev pub most_bytes : ℕ
+most_bytes = 1048560
+
+abbrev pub rest_of : {A : Type 0} → List A → List A
+rest_of [] = []
+rest_of (x ∷ xs) = xs
+
+-- the turn once this was asked: a store and a type record are due no more
+abbrev pub without : Ask → Turn → Turn
+without (asks.Store op) turn = record turn { stores = rest_of turn.stores }
+without (asks.KeepType bytes) turn = record turn { records = rest_of turn.records }
+without (asks.Look x) turn = turn
+without (asks.Hold xs) turn = turn
+without (asks.Release xs) turn = turn
+without asks.Collect turn = turn
+without asks.Tidy turn = turn
+
+-- what is asked is what is due next: of a store and a type record, the first
+abbrev pub IsDue : Ask → Turn → Type 0
+IsDue (asks.Store op) turn = turn.stores ≡ op ∷ rest_of turn.stores
+IsDue (asks.KeepType bytes) turn = turn.records ≡ bytes ∷ rest_of turn.records
+IsDue (asks.Look x) turn = Unit {0}
+IsDue (asks.Hold xs) turn = Unit {0}
+IsDue (asks.Release xs) turn = Unit {0}
+IsDue asks.Collect turn = Unit {0}
+IsDue asks.Tidy turn = Unit {0}
+
+-- nothing is due but this text, and all else is at the turn's state
+pub record Answers (text : List ℕ) (memory : Memory) (storage : Storage) (turn : Turn) : Type 0 where
+  pub text_is : turn.text ≡ text
+  pub line : (front : List ℕ) × (text ≡ front ++ 10 ∷ [])
+  pub records : turn.records ≡ []
+  pub stores : turn.stores ≡ []
+  pub stands : StandsAt memory storage turn.state
+
+-- the answer to a store of so many records
+abbrev pub stored_text : ℕ → ℕ → List ℕ
+stored_text number count = (codes "stored " ++ (decimal number ++ (32 ∷ decimal count))) ++ 10 ∷ []
+
+abbrev pub kept_text : ℕ → List ℕ
+kept_text count = (codes "kept " ++ decimal count) ++ 10 ∷ []
+
+-- the objects that were loaded are in memory: then the command comes, or the name is bound
+abbrev pub GoesOn : Purpose → Memory → Storage → Turn → Type 0
+GoesOn (purposes.Start command) memory storage turn =
+    (state : State) × StandsAt memory storage state × (state.started ≡ true) × (turn ≡ command_turn most_bytes state (meant command))
+GoesOn (purposes.Follow new id) memory storage turn =
+    (state : State) × StandsAt memory storage state × (turn ≡ ok (bound state new id))
+
+-- what is due once the reply has come
+abbrev pub Replied : Phase → Reply → Memory → Storage → Turn → Type 0
+Replied (phases.Saying text) reply memory storage turn = Answers text memory storage turn
+Replied (phases.Storing count) (replies.Stored number) memory storage turn = Answers (stored_text number count) memory storage turn
+Replied phases.Collecting (replies.Count count) memory storage turn = Answers (kept_text count) memory storage turn
+Replied (phases.Holding purpose) reply memory storage turn = GoesOn purpose memory storage turn
+Replied _ _ memory storage turn = ⊥
+
+-- an ask that may be asked and is due; and what is due after it once it is served
+pub record Awaits (is_next_type : List (List ℕ) → List ℕ → Bool) (ask : Ask) (phase : Phase) (memory : Memory) (storage : Storage) (turn : Turn) : Type 0 where
+  pub may : MayAsk is_next_type storage ask
+  pub due : IsDue ask turn
+  pub then_ : (reply : Reply) (new : Storage) → Served storage ask reply new → Replied phase reply memory new (without ask turn)
+
+-- what a command comes to is what is due
+abbrev pub Meets : (List (List ℕ) → List ℕ → Bool) → Outcome → Memory → Storage → Turn → Type 0
+Meets is_next_type (outcomes.Answer text) memory storage turn = Answers text memory storage turn
+Meets is_next_type (outcomes.Ask ask phase) memory storage turn = Awaits is_next_type ask phase memory storage turn

@@ -1,0 +1,270 @@
+//! The lines that give a member another value: `set`, `add`, `cut` and `root`.
+
+ghost use Rattle.std.specs.Prelude.{◌≡◌, ◌<◌, ◌++◌, ◌∷◌, [], ℕ, Bool, List, Some, true, length, option_map, IfOk};
+ghost use Rattle.graph_model.specs.Served.{Storage};
+ghost use Rattle.entity_form.specs.declared.value.Value.{Value as AnyValue};
+ghost use Rattle.session_model.specs.Answer.{State, Turn, add_turn, cut_turn, given, given_bytes, given_id, given_int, root_turn, set_turn, target_id, without_at};
+ghost use Rattle.session_model.specs.Commands.{SetMember, integer_of, target_of};
+ghost use Rattle.session_model.specs.Answer.{hex_bytes};
+ghost use Rattle.session_model.specs.Sound.{IsProperCommand, IsSound};
+ghost use Rattle.object_registry.specs.Bindings.{SameNames};
+ghost use Rattle.script_text.specs.Meaning.{target_meant};
+ghost use Rattle.session.specs.Stands.{StandsAt};
+ghost use Rattle.session.specs.Due.{Meets};
+ghost use Rattle.session.specs.Refusals.{Says};
+ghost use Rattle.session.specs.Changes.{Gives, IsChange, MayChange, root_value};
+
+use crate::answers::{line, outcome_of};
+use crate::memory::Memory;
+use crate::outcome::Outcome;
+use crate::places::{named, place_of, refs_in};
+use crate::refusal::{Refusal, Stop};
+use entity_form::Value;
+use graph_model::{Bytes, Ids, NoMemory};
+use script_text::{GivenInteger, Index, Target, bytes_in, integer_in, target_in};
+use std::alloc::Global;
+use type_desc::Text;
+
+/// The id of the root.
+const ROOT_ID: u64 = 1;
+
+/// A member's new value.
+#[derive(Debug, Drop)]
+pub struct Change {
+    /// The object's id.
+    pub id: u64,
+    /// The member's index, from 0.
+    pub index: u32,
+    pub value: Value,
+}
+
+/// Gives a member its new value, which is answered `ok`.
+fn apply(memory: &mut Memory, judged: Result<Change, Stop>) -> Result<Bytes, Stop>
+    requires { IfOk judged (MayChange memory.old.registry) }
+    ensures { (storage : Storage) (state : State) (turn : Turn) → StandsAt memory.old storage state → IsChange judged state turn → IsSound turn.state
+        → Says result memory.new storage turn }
+{
+    match judged {
+        Ok(change) => {
+            memory.registry.set(change.id, change.index, change.value);
+            Ok(line(memory.alloc, "ok")?)
+        }
+        Err(stop) => Err(stop),
+    }
+}
+
+fn changed(memory: &mut Memory, judged: Result<Change, Stop>) -> Result<Outcome, NoMemory>
+    requires { IfOk judged (MayChange memory.old.registry) }
+    ensures { (is_next_type : List (List ℕ) → List ℕ → Bool) (storage : Storage) (state : State) (turn : Turn) → StandsAt memory.old storage state → IsChange judged state turn
+        → IsSound turn.state → IfOk result (λ outcome. Meets is_next_type outcome memory.new storage turn) }
+{
+    let alloc = memory.alloc;
+    let said = apply(memory, judged);
+    outcome_of(alloc, said)
+}
+
+/// What the rest of a line is for an `int` member.
+fn int_in(rest: &Text) -> Result<i64, Stop>
+    ensures { Gives AnyValue.Int result (given_int (integer_of rest.now)) }
+{
+    match integer_in(rest) {
+        GivenInteger::Fits(number) => Ok(number),
+        GivenInteger::Misfits => Err(Stop::Refused(Refusal::WrongKind)),
+        GivenInteger::OutOfRange => Err(Stop::Refused(Refusal::Range)),
+    }
+}
+
+/// What the rest of a line is for a `bytes` member.
+fn hex_in(alloc: Global, rest: &Text) -> Result<Bytes, Stop>
+    ensures { Gives AnyValue.Bytes result (given_bytes (hex_bytes rest.now)) }
+{
+    match bytes_in(alloc, rest)? {
+        Some(bytes) => Ok(Bytes::new(bytes)),
+        None => Err(Stop::Refused(Refusal::WrongKind)),
+    }
+}
+
+/// The id that a name is bound to, or 0 for `null`.
+fn id_of(memory: &Memory, target: &Target) -> Option<u64>
+    ensures { (state : State) → SameNames memory.now.registry.names state.names → result ≡ target_id state (Some (target_meant target.now)) }
+{
+    match target {
+        Target::Null => Some(0),
+        Target::Named(name) => memory.registry.id_of(name),
+    }
+}
+
+/// What the rest of a line is for a `ref` or `lazy` member.
+fn id_in(memory: &Memory, rest: &Text) -> Result<u64, Stop>
+    ensures { (make : ℕ → AnyValue) (state : State) → SameNames memory.now.registry.names state.names → Gives make result (given_id make state (target_of rest.now)) }
+{
+    let Some(target) = target_in(memory.alloc, rest)? else {
+        return Err(Stop::Refused(Refusal::WrongKind));
+    };
+    match id_of(memory, &target) {
+        Some(id) => Ok(id),
+        None => Err(Stop::Refused(Refusal::NoName)),
+    }
+}
+
+/// What the rest of a line is for a member that has this value now: `WrongKind`, `Range`, `NoName`.
+fn value_in(memory: &Memory, value: &Value, rest: Text) -> Result<Value, Stop>
+    ensures { (state : State) → SameNames memory.now.registry.names state.names → Gives (λ v. v) result (given state rest (Some value.now)) }
+{
+    match value {
+        Value::Int(_) => Ok(Value::Int(int_in(&rest)?)),
+        Value::Text(_) => Ok(Value::Text(rest)),
+        Value::Bytes(_) => Ok(Value::Bytes(hex_in(memory.alloc, &rest)?)),
+        Value::Ref(_) => Ok(Value::Ref(id_in(memory, &rest)?)),
+        Value::Lazy(_) => Ok(Value::Lazy(id_in(memory, &rest)?)),
+        Value::Refs(_) => Err(Stop::Refused(Refusal::WrongKind)),
+    }
+}
+
+fn set_change(memory: &Memory, name: &Text, member: &Text, rest: Text) -> Result<Change, Stop>
+    ensures fits { IfOk result (MayChange memory.now.registry) }
+    ensures judged { (storage : Storage) (state : State) → StandsAt memory.now storage state → state.started ≡ true → IsChange result state (set_turn state name.now member.now rest) }
+{
+    let place = place_of(memory, name, member)?;
+    let value = value_in(memory, place.value, rest)?;
+    Ok(Change {
+        id: place.id,
+        index: place.index,
+        value,
+    })
+}
+
+/// `set NAME MEMBER REST`: gives a member the value that the rest of the line spells.
+pub fn set_member(
+    memory: &mut Memory,
+    name: &Text,
+    member: &Text,
+    rest: Text,
+) -> Result<Outcome, NoMemory>
+    ensures meets { (is_next_type : List (List ℕ) → List ℕ → Bool) (storage : Storage) (state : State) → StandsAt memory.old storage state → state.started ≡ true
+        → IsProperCommand (SetMember name.now member.now rest) → IfOk result (λ outcome. Meets is_next_type outcome memory.new storage (set_turn state name.now member.now rest)) }
+{
+    let judged = set_change(memory, name, member, rest);
+    changed(memory, judged)
+}
+
+/// The ids with one more behind them.
+fn with_last(alloc: Global, ids: &[u64], id: u64) -> Result<Ids, NoMemory>
+    ensures { IfOk result (λ items. items ≡ ids.now ++ id ∷ []) }
+{
+    let mut items = Vec::from_slice(alloc, ids)?;
+    items.push(id)?;
+    Ok(Ids::new(items))
+}
+
+fn add_change(memory: &Memory, name: &Text, member: &Text, target: &Target) -> Result<Change, Stop>
+    ensures fits { IfOk result (MayChange memory.now.registry) }
+    ensures judged { (storage : Storage) (state : State) → StandsAt memory.now storage state → state.started ≡ true → IsChange result state (add_turn state name.now member.now (target_meant target.now)) }
+{
+    let place = place_of(memory, name, member)?;
+    let Some(ids) = refs_in(place.value) else {
+        return Err(Stop::Refused(Refusal::WrongKind));
+    };
+    let Some(id) = id_of(memory, target) else {
+        return Err(Stop::Refused(Refusal::NoName));
+    };
+    let ids = with_last(memory.alloc, ids.as_slice(), id)?;
+    Ok(Change {
+        id: place.id,
+        index: place.index,
+        value: Value::Refs(ids),
+    })
+}
+
+/// `add NAME MEMBER TARGET`: puts a reference at the end of a `refs` member.
+pub fn add_to(
+    memory: &mut Memory,
+    name: &Text,
+    member: &Text,
+    target: &Target,
+) -> Result<Outcome, NoMemory>
+    ensures meets { (is_next_type : List (List ℕ) → List ℕ → Bool) (storage : Storage) (state : State) → StandsAt memory.old storage state → state.started ≡ true
+        → IfOk result (λ outcome. Meets is_next_type outcome memory.new storage (add_turn state name.now member.now (target_meant target.now))) }
+{
+    let judged = add_change(memory, name, member, target);
+    changed(memory, judged)
+}
+
+/// The ids without the one with this index.
+fn without(alloc: Global, ids: &[u64], at: usize) -> Result<Ids, NoMemory>
+    requires { at < length ids.now }
+    ensures { IfOk result (λ items. items ≡ without_at ids.now at) }
+{
+    let mut items = Vec::from_slice(alloc, ids)?;
+    items.remove(at);
+    Ok(Ids::new(items))
+}
+
+fn cut_change(memory: &Memory, name: &Text, member: &Text, index: &Index) -> Result<Change, Stop>
+    ensures fits { IfOk result (MayChange memory.now.registry) }
+    ensures judged { (storage : Storage) (state : State) → StandsAt memory.now storage state → state.started ≡ true → IsChange result state (cut_turn state name.now member.now index.now) }
+{
+    let place = place_of(memory, name, member)?;
+    let Some(ids) = refs_in(place.value) else {
+        return Err(Stop::Refused(Refusal::WrongKind));
+    };
+    let Some(at) = index.below(ids.len()) else {
+        return Err(Stop::Refused(Refusal::Range));
+    };
+    let ids = without(memory.alloc, ids.as_slice(), at)?;
+    Ok(Change {
+        id: place.id,
+        index: place.index,
+        value: Value::Refs(ids),
+    })
+}
+
+/// `cut NAME MEMBER INDEX`: takes a reference out of a `refs` member, and the rest close up.
+pub fn cut_from(
+    memory: &mut Memory,
+    name: &Text,
+    member: &Text,
+    index: &Index,
+) -> Result<Outcome, NoMemory>
+    ensures meets { (is_next_type : List (List ℕ) → List ℕ → Bool) (storage : Storage) (state : State) → StandsAt memory.old storage state → state.started ≡ true
+        → IfOk result (λ outcome. Meets is_next_type outcome memory.new storage (cut_turn state name.now member.now index.now)) }
+{
+    let judged = cut_change(memory, name, member, index);
+    changed(memory, judged)
+}
+
+/// The value of the root's one member.
+pub fn root_value(memory: &Memory) -> Option<&Value>
+    ensures { option_map (λ value. value.now) result ≡ root_value memory.now.registry }
+{
+    match memory.registry.copy(ROOT_ID) {
+        Some(root) => root.object().values.as_slice().first(),
+        None => None,
+    }
+}
+
+fn root_change(memory: &Memory, name: &Text) -> Result<Change, Stop>
+    ensures fits { IfOk result (MayChange memory.now.registry) }
+    ensures judged { (storage : Storage) (state : State) → StandsAt memory.now storage state → state.started ≡ true → IsChange result state (root_turn state name.now) }
+{
+    let Some((id, _)) = named(memory, name) else {
+        return Err(Stop::Refused(Refusal::NoName));
+    };
+    match root_value(memory) {
+        Some(_) => Ok(Change {
+            id: ROOT_ID,
+            index: 0,
+            value: Value::Ref(id),
+        }),
+        None => Err(Stop::Refused(Refusal::NoMember)),
+    }
+}
+
+/// `root NAME`: makes the object the root's target.
+pub fn set_root(memory: &mut Memory, name: &Text) -> Result<Outcome, NoMemory>
+    ensures meets { (is_next_type : List (List ℕ) → List ℕ → Bool) (storage : Storage) (state : State) → StandsAt memory.old storage state → state.started ≡ true
+        → IfOk result (λ outcome. Meets is_next_type outcome memory.new storage (root_turn state name.now)) }
+{
+    let judged = root_change(memory, name);
+    changed(memory, judged)
+}

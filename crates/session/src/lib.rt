@@ -1,0 +1,25 @@
+//! The lines of a script over a storage that is asked: whatever storage answers, what is printed is what the model says, and each ask may be asked.
+#![tactic(auto)]
+
+mod answers;
+mod changing;
+mod memory;
+mod naming;
+mod outcome;
+mod places;
+mod refusal;
+mod storing;
+mod telling;
+
+pub use changing::{add_to, cut_from, set_member, set_root};
+pub use memory::Memory;
+pub use naming::{drop_name, home, new, pick};
+pub use outcome::{Outcome, Phase, Purpose};
+pub use refusal::{Refusal, Stop};
+pub use storing::{store, store_all};
+pub use telling::{collect, forget, show, tidy};
+
+#[cfg(test)]
+mod store_tests;
+#[cfg(test)]
+mod tests;

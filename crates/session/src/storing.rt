@@ -1,0 +1,134 @@
+//! The lines that store: `store` and `store-all`.
+
+ghost use Rattle.std.specs.Prelude.{◌≡◌, ℕ, Bool, List, true, false, IfErr, IfOk};
+ghost use Rattle.graph_model.specs.Graph.{ids};
+ghost use Rattle.graph_model.specs.Served.{Storage};
+ghost use Rattle.session_model.specs.Answer.{State, are_too_big, gathered_records, store_turn};
+ghost use Rattle.session_model.specs.Instances.{gathered_eagerly, gathered_lazily};
+ghost use Rattle.storer.specs.Faults.{IsRefused};
+ghost use Rattle.storer.specs.Gathered.{AreKnown};
+ghost use Rattle.session.specs.Stands.{StandsAt};
+ghost use Rattle.session.specs.Due.{Meets, most_bytes};
+ghost use Rattle.session.specs.StoreAsks.{Gathers, IsGathered, gathered_by};
+ghost use Rattle.session.specs.declared.storing.Storer.{Storer as AnyStorer};
+
+use crate::answers::outcome_of;
+use crate::memory::Memory;
+use crate::outcome::{Outcome, Phase};
+use crate::refusal::{Refusal, Stop};
+use graph_model::{Ask, Ids, NoMemory, Record, StoreOp};
+use std::alloc::Global;
+use storer::{GatherFault, gather_eager, gather_lazy};
+use type_desc::Text;
+
+/// The most bytes that the entities of one store take.
+const MOST_BYTES: u64 = 1_048_560;
+
+/// Which of the objects that a stored one names are stored with it.
+#[derive(Clone, Copy, Debug)]
+pub enum Storer {
+    /// Those that were never stored.
+    Lazy,
+    /// All that are in memory.
+    Eager,
+}
+
+fn gather_from(memory: &Memory, storer: Storer, start: u64) -> Result<StoreOp, GatherFault>
+    requires { AreKnown memory.now.types memory.now.registry.instances }
+    ensures records { IfOk result (λ op. op.records ≡ gathered_records memory.now.registry.instances (gathered_by storer memory.now.registry.instances start)) }
+    ensures next { IfOk result (λ op. op.next_id ≡ memory.now.next_id) }
+    ensures fits { IfOk result (λ op. are_too_big most_bytes op.records ≡ false) }
+    ensures fault { IfErr result (IsRefused most_bytes (gathered_records memory.now.registry.instances (gathered_by storer memory.now.registry.instances start))) }
+{
+    match storer {
+        Storer::Lazy => gather_lazy(
+            memory.alloc,
+            &memory.registry,
+            start,
+            &memory.types,
+            memory.next_id,
+            MOST_BYTES,
+        ),
+        Storer::Eager => gather_eager(
+            memory.alloc,
+            &memory.registry,
+            start,
+            &memory.types,
+            memory.next_id,
+            MOST_BYTES,
+        ),
+    }
+}
+
+/// What is to be stored with the object of the name: `NoName`, then `TooBig`.
+fn gather(memory: &Memory, name: &Text, storer: Storer) -> Result<StoreOp, Stop>
+    requires { AreKnown memory.now.types memory.now.registry.instances }
+    ensures { IsGathered storer memory.now name.now result }
+{
+    let Some(start) = memory.registry.id_of(name) else {
+        return Err(Stop::Refused(Refusal::NoName));
+    };
+    match gather_from(memory, storer, start) {
+        Ok(op) => Ok(op),
+        Err(GatherFault::EntityTooBig { id: _, length: _ }) => Err(Stop::Refused(Refusal::TooBig)),
+        Err(GatherFault::StoreTooBig { length: _ }) => Err(Stop::Refused(Refusal::TooBig)),
+        Err(GatherFault::NoMemory) => Err(Stop::NoMemory),
+    }
+}
+
+/// The ids of records, in their order.
+fn ids_of(alloc: Global, records: &[Record]) -> Result<Ids, NoMemory>
+    ensures { IfOk result (λ all. all ≡ ids records.now) }
+{
+    let mut all = Vec::with_capacity(alloc, records.len())?;
+    for record in records {
+        all.push(record.id)?;
+    }
+    Ok(Ids::new(all))
+}
+
+/// Takes what was gathered as stored, and asks the storage to store it.
+fn ask_to_store(memory: &mut Memory, op: StoreOp) -> Result<Outcome, NoMemory>
+    ensures known { AreKnown memory.old.types memory.old.registry.instances → AreKnown memory.new.types memory.new.registry.instances }
+    ensures meets { (is_next_type : List (List ℕ) → List ℕ → Bool) (storer : AnyStorer) (name : List ℕ) (storage : Storage) (state : State) → Gathers storer memory.old name op
+        → StandsAt memory.old storage state → state.started ≡ true → IfOk result (λ outcome. Meets is_next_type outcome memory.new storage (store_turn most_bytes state name (gathered_by storer))) }
+{
+    let all = ids_of(memory.alloc, op.records.as_slice())?;
+    memory.registry.stored(&all);
+    let count = op.records.len() as u64;
+    Ok(Outcome::Ask(Ask::Store(op), Phase::Storing(count)))
+}
+
+fn store_by(memory: &mut Memory, name: &Text, storer: Storer) -> Result<Outcome, NoMemory>
+    requires { AreKnown memory.old.types memory.old.registry.instances }
+    ensures known { AreKnown memory.new.types memory.new.registry.instances }
+    ensures meets { (is_next_type : List (List ℕ) → List ℕ → Bool) (storage : Storage) (state : State) → StandsAt memory.old storage state → state.started ≡ true
+        → IfOk result (λ outcome. Meets is_next_type outcome memory.new storage (store_turn most_bytes state name.now (gathered_by storer))) }
+{
+    match gather(memory, name, storer) {
+        Ok(op) => ask_to_store(memory, op),
+        Err(stop) => outcome_of(memory.alloc, Err(stop)),
+    }
+}
+
+/// `store NAME`: stores the object, and from each stored object every one that it names and that was never stored. The types of all objects in
+/// memory are known, and stay so.
+pub fn store(memory: &mut Memory, name: &Text) -> Result<Outcome, NoMemory>
+    requires known { AreKnown memory.old.types memory.old.registry.instances }
+    ensures known { AreKnown memory.new.types memory.new.registry.instances }
+    ensures meets { (is_next_type : List (List ℕ) → List ℕ → Bool) (storage : Storage) (state : State) → StandsAt memory.old storage state → state.started ≡ true
+        → IfOk result (λ outcome. Meets is_next_type outcome memory.new storage (store_turn most_bytes state name.now gathered_lazily)) }
+{
+    store_by(memory, name, Storer::Lazy)
+}
+
+/// `store-all NAME`: stores the object, and from each stored object every one in memory that it names. The types of all objects in memory are
+/// known, and stay so.
+pub fn store_all(memory: &mut Memory, name: &Text) -> Result<Outcome, NoMemory>
+    requires known { AreKnown memory.old.types memory.old.registry.instances }
+    ensures known { AreKnown memory.new.types memory.new.registry.instances }
+    ensures meets { (is_next_type : List (List ℕ) → List ℕ → Bool) (storage : Storage) (state : State) → StandsAt memory.old storage state → state.started ≡ true
+        → IfOk result (λ outcome. Meets is_next_type outcome memory.new storage (store_turn most_bytes state name.now gathered_eagerly)) }
+{
+    store_by(memory, name, Storer::Eager)
+}
