@@ -1,0 +1,57 @@
+-- One type more in the log of types.
+use Rattle.std.proofs.Common.{⊎_elim, inl, inr, ◌⊎◌, ◌≡◌, ◌+◌, ◌++◌, [], ◌∷◌, ℕ, Bool, List, length, length-append, ap, sym, subst, ◌∙◌, arith}
+use Rattle.std.specs.List.{AllByRecursion}
+use Rattle.store_io.specs.Disk.{Only}
+use Rattle.gated_log.specs.Log.{payloads_of, IsLogOf, IsBeforeOrAfter, Each}
+use Rattle.type_desc.specs.Grammar.{record_text}
+use Rattle.type_desc.specs.declared.desc.TypeDesc.{TypeDesc}
+use Rattle.type_dictionary.specs.Records.{IsNextRecord, IsRecorded}
+use Rattle.plain_storage.specs.Types.{types_header, type_records, AreTypesHeld}
+use Rattle.plain_storage.proofs.Opening.{file_payloads}
+
+abbrev one_record : ℕ → TypeDesc → List (List ℕ)
+one_record id desc = record_text (id, desc) ∷ []
+
+-- the record of a type behind others
+pub type_records-push : (id : ℕ) (types : List TypeDesc) (desc : TypeDesc) → type_records id (types ++ desc ∷ []) ≡ type_records id types ++ record_text (id + length types, desc) ∷ []
+type_records-push id [] desc =
+    let same : id ≡ id + 0 = omega arith in
+    ap (λ n. one_record n desc) same
+type_records-push id (first ∷ types) desc =
+    let same : (id + 1) + length types ≡ id + length (first ∷ types) = omega arith in
+    ap (λ (l : List (List ℕ)). record_text (id, first) ∷ l)
+    (type_records-push (id + 1) types desc ∙ ap (λ n. type_records (id + 1) types ++ record_text (n, desc) ∷ []) same)
+
+recorded-push : (types : List TypeDesc) (desc : TypeDesc) → AllByRecursion IsRecorded types → IsRecorded desc → AllByRecursion IsRecorded (types ++ desc ∷ [])
+recorded-push [] desc each last = (last, tt)
+recorded-push (first ∷ types) desc each last = (each.0, recorded-push types desc each.1 last)
+
+-- the log of one record more holds one type more
+pub holds_more : (file text image : List ℕ) (types : List TypeDesc) (desc : TypeDesc) → AreTypesHeld file types → IsNextRecord types text desc
+    → IsLogOf types_header (payloads_of file ++ text ∷ []) image → AreTypesHeld image (types ++ desc ∷ [])
+holds_more file text image types desc held next log =
+    let before = file_payloads types_header (type_records 16 types) file held.log in
+    let all : payloads_of file ++ text ∷ [] ≡ type_records 16 (types ++ desc ∷ []) =
+    ap (λ (ps : List (List ℕ)). ps ++ text ∷ []) before ∙ ap (λ (t : List ℕ). type_records 16 types ++ t ∷ []) next.spelled ∙ sym (type_records-push 16 types desc) in
+    record {
+      few = omega (arith, next.room, length-append types (desc ∷ []));
+      recorded = recorded-push types desc held.recorded next.recorded;
+      log = inr (subst (λ (ps : List (List ℕ)). IsLogOf types_header ps image) all log);
+    }
+
+-- the log of the same records holds the same types
+pub holds_same : (file image : List ℕ) (types : List TypeDesc) → AreTypesHeld file types → IsLogOf types_header (payloads_of file) image → AreTypesHeld image types
+holds_same file image types held log = record {
+  few = held.few;
+  recorded = held.recorded;
+  log = inr (subst (λ (ps : List (List ℕ)). IsLogOf types_header ps image) (file_payloads types_header (type_records 16 types) file held.log) log);
+}
+
+pub holds_either : (file text image : List ℕ) (types : List TypeDesc) (desc : TypeDesc) → AreTypesHeld file types → IsNextRecord types text desc
+    → IsBeforeOrAfter types_header (payloads_of file) text image → AreTypesHeld image types ⊎ AreTypesHeld image (types ++ desc ∷ [])
+holds_either file text image types desc held next either =
+    ⊎_elim (λ log. inl (holds_same file image types held log)) (λ log. inr (holds_more file text image types desc held next log)) either
+
+-- where a stop leaves one file alone, each image is its log
+pub only_log : (header file : List ℕ) (leaves : List ℕ → Bool) → Only file leaves → IsLogOf header (payloads_of file) file → Each leaves (IsLogOf header (payloads_of file))
+only_log header file leaves only log image left = subst (λ (l : List ℕ). IsLogOf header (payloads_of file) l) (sym (only image left)) log

@@ -1,0 +1,3 @@
+pub mod TypeRecords
+pub mod Opening
+pub mod Keeping

@@ -1,0 +1,47 @@
+-- What the two files of a session's disk hold: types in file 1, and stores in file 0.
+use Rattle.std.specs.Prelude.{◌≡◌, ℕ, true, nat_eq, Some, List, [], length}
+use Rattle.graph_model.specs.declared.entity.Entity.{Entity}
+use Rattle.graph_model.specs.declared.entity.StoreOp.{StoreOp}
+use Rattle.graph_model.specs.Graph.{Graph, entity_of, has_edge, lists, after}
+use Rattle.entity_form.specs.Form.{Holds}
+use Rattle.entity_form.specs.Values.{kinds_of}
+use Rattle.entity_form.specs.declared.value.Value.{Value}
+use Rattle.type_desc.specs.declared.desc.TypeDesc.{TypeDesc}
+use Rattle.type_dictionary.specs.Latest.{desc_of}
+use Rattle.plain_storage.specs.Logs.{IsLogFile}
+use Rattle.plain_storage.specs.Types.{AreTypesHeld}
+use Rattle.plain_storage.specs.Stores.{plain_header, payloads_of_stores, AllMayFollow, last_next_id}
+
+pub record PlainHeld : Type 0 where
+  pub types : List TypeDesc
+  pub graph : Graph
+  pub number : ℕ
+  pub next_id : ℕ
+
+-- the entity has the form of a known type; id 1, and no other, has the type 1
+pub record HasKnownForm (types : List TypeDesc) (x : ℕ) (entity : Entity) : Type 0 where
+  pub desc : TypeDesc
+  pub known : desc_of types entity.type_id ≡ Some desc
+  pub values : List Value
+  pub holds : Holds (kinds_of desc) entity.refs entity.plain values
+  pub root : nat_eq entity.type_id 1 ≡ nat_eq x 1
+
+-- each entity has its form, and what an edge names is there
+pub record IsSoundGraph (types : List TypeDesc) (graph : Graph) : Type 0 where
+  pub forms : (x : ℕ) (entity : Entity) → entity_of graph x ≡ Some entity → HasKnownForm types x entity
+  pub whole : (x y : ℕ) → has_edge graph x y ≡ true → lists graph y ≡ true
+
+-- the images of file 0 and of file 1 hold this: types, and stores of sound entities that make the graph
+pub record IsPlainStored (image0 image1 : List ℕ) (held : PlainHeld) : Type 0 where
+  pub types : AreTypesHeld image1 held.types
+  pub stores : List StoreOp
+  pub follow : AllMayFollow 1024 stores
+  pub log : IsLogFile plain_header (payloads_of_stores 1 stores) image0
+  pub graph : held.graph ≡ after [] stores
+  pub number : held.number ≡ length stores
+  pub next_id : held.next_id ≡ last_next_id 1024 stores
+  pub sound : IsSoundGraph held.types held.graph
+
+-- the images hold nothing
+abbrev pub IsPlainFault : List ℕ → List ℕ → Type 0
+IsPlainFault image0 image1 = (held : PlainHeld) → ¬ (IsPlainStored image0 image1 held)
