@@ -1,5 +1,5 @@
 -- What a mapping makes of the entities of its type.
-use Rattle.std.proofs.Common.{◌≡◌, ℕ, Bool, true, false, cond, List, Option, Some, None, Result, Ok, Err, refl, sym, ap, ◌∙◌, subst}
+use Rattle.std.proofs.Common.{◌≡◌, ℕ, Bool, cond, List, Option, Some, None, Result, Ok, Err, sym, ap, ◌∙◌, subst}
 use Rattle.std.specs.Prelude.{IfOk}
 use Rattle.graph_model.specs.declared.entity.Entity.{Entity}
 use Rattle.graph_model.specs.declared.memory.NoMemory.{NoMemory}
@@ -11,14 +11,13 @@ use Rattle.entity_form.specs.declared.value.Value.{Value}
 use Rattle.entity_form.proofs.Forms.{holds_again}
 use Rattle.refactor_table.specs.declared.name.Pair.{Pair}
 use Rattle.legacy_mapping.specs.Conversion.{converted}
-use Rattle.session_model.specs.Types.{all_of_kinds, desc_of, desc_at, latest_id, sources_of, target_name}
+use Rattle.session_model.specs.Types.{desc_of, desc_at, latest_id, sources_of, target_name}
 use Rattle.session_model.specs.Loading as loading
 use Rattle.session_model.specs.Loading.{Converted, conversion, converted_from, converted_if, values_in}
 use Rattle.lazy_refs.specs.Forms.{IsObjectOf}
-use Rattle.lazy_refs.specs.Mappings.{Becomes, IsMappingBetween, IsMappingFrom, IsMappingOf, IsPlanned, seen}
+use Rattle.lazy_refs.specs.Mappings.{Becomes, IsMappingBetween, IsMappingFrom, IsMappingOf, IsPlanned}
 use Rattle.lazy_refs.specs.declared.mapping.Mapping.{Mapping}
 use Rattle.lazy_refs.specs.declared.mapping.Mapping.TheVariants as mappings
-use Rattle.lazy_refs.specs.declared.mapping.Outcome.{Outcome}
 use Rattle.lazy_refs.specs.declared.mapping.Outcome.TheVariants as outcomes
 use Rattle.lazy_refs.proofs.Alike.{converted-same}
 

@@ -1,26 +1,24 @@
 -- A call on a walk: the next id is asked for, or the walk has ended.
-use Rattle.std.proofs.Common.{◌≡◌, ℕ, ◌≤◌, Bool, true, false, cond, ◌||◌, List, [], ◌∷◌, ◌++◌, Option, Some, None, Result, Ok, Err, ◌⊎◌, inl, inr, refl, sym, ap, ◌∙◌, subst}
-use Rattle.std.specs.Prelude.{nat_eq, option_and_then, codes}
+use Rattle.std.proofs.Common.{◌≡◌, ℕ, ◌≤◌, Bool, true, false, cond, ◌||◌, List, [], ◌∷◌, ◌++◌, Option, Some, None, inl, inr, refl, sym, ap, ◌∙◌, subst}
+use Rattle.std.specs.Prelude.{option_and_then}
 use Rattle.std.specs.List.{filter}
-use Rattle.std.proofs.lemmas.Bool.{or_cases, or_left, or_right, eq-eqb}
+use Rattle.std.proofs.lemmas.Bool.{or_cases, or_left, or_right}
 use Rattle.graph_model.specs.Ids.{has, rises}
-use Rattle.graph_model.specs.Graph.{Graph, entity_of, ids, lists, IsReached}
+use Rattle.graph_model.specs.Graph.{Graph, entity_of, ids, lists}
 use Rattle.graph_model.specs.declared.entity.Entity.{Entity}
 use Rattle.graph_model.specs.declared.entity.Record.{Record}
 use Rattle.graph_model.proofs.Graphs.{entity_of_filter}
 use Rattle.graph_model.proofs.Rising.{filter_ids, rises_filter}
-use Rattle.graph_model.proofs.Walks.{IsSearch}
 use Rattle.type_desc.specs.declared.desc.TypeDesc.{TypeDesc}
 use Rattle.entity_form.specs.declared.value.Object.{Object}
 use Rattle.refactor_table.specs.declared.name.Pair.{Pair}
 use Rattle.session_model.specs.Instances.{Instances, reached}
-use Rattle.session_model.specs.Loading.{Converted, closure_of, conversion, load, load_all, loading_graph}
+use Rattle.session_model.specs.Loading.{Converted, conversion, load, load_all, loading_graph}
 use Rattle.session_model.proofs.Reached.{walks-reached}
-use Rattle.object_registry.specs.Registered.{put_loaded}
 use Rattle.object_registry.proofs.Finds.{search_finds}
 use Rattle.lazy_refs.specs.Mappings.{seen}
 use Rattle.lazy_refs.specs.Steps.{IsLeast, IsLoading, IsOutward, IsReady, IsRefusal, IsStep, IsWalked, object_in, object_of, reason_in, reason_of}
-use Rattle.lazy_refs.specs.Walks.{AreKnown, AsksFor, GoesOn, IsNext, Progress, TurnsBy, TurnsWith, loaded_ids, object_at, refused_as}
+use Rattle.lazy_refs.specs.Walks.{AreKnown, AsksFor, GoesOn, Progress, TurnsBy, TurnsWith, loaded_ids, object_at, refused_as}
 use Rattle.lazy_refs.specs.declared.step.LoadStep.{LoadStep}
 use Rattle.lazy_refs.specs.declared.step.LoadStep.TheVariants as steps
 use Rattle.lazy_refs.specs.declared.step.Reason.{Reason}

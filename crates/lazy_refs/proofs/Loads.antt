@@ -1,9 +1,8 @@
 -- The instances that the model loads, by the objects of a list in any order; and the code by which it refuses.
-use Rattle.std.proofs.Common.{◌≡◌, ℕ, ◌≤◌, ◌<◌, Bool, true, false, cond, not, List, [], ◌∷◌, Option, Some, None, Result, Ok, Err, ◌⊎◌, inl, inr, refl, sym, ap, ◌∙◌, subst, arith}
-use Rattle.std.specs.Prelude.{nat_eq, nat_lt, codes, is_some, option_and_then}
-use Rattle.std.specs.List.{filter}
+use Rattle.std.proofs.Common.{◌≡◌, ℕ, ◌≤◌, ◌<◌, Bool, true, false, cond, List, [], ◌∷◌, Option, Some, None, Ok, Err, ◌⊎◌, inl, inr, refl, sym, ap, ◌∙◌, subst, arith}
+use Rattle.std.specs.Prelude.{nat_eq, codes, is_some, option_and_then}
 use Rattle.std.proofs.lemmas.Bool.{cases_order, eq-eqb, eqb-true, eqb-false, ne_eqb, lt-ltb, le-ltb}
-use Rattle.graph_model.specs.Ids.{has, rises, rises_from}
+use Rattle.graph_model.specs.Ids.{rises, rises_from}
 use Rattle.graph_model.specs.Graph.{Graph, entity_of, ids, lists}
 use Rattle.graph_model.specs.declared.entity.Entity.{Entity}
 use Rattle.graph_model.proofs.Graphs.{has_ids}
@@ -14,7 +13,6 @@ use Rattle.session_model.specs.Instances.{Held, Instance, Instances, put_instanc
 use Rattle.session_model.specs.Loading.{Converted, conversion, load_all, then_load}
 use Rattle.session_model.proofs.SameIds.{above_first, rises-tail}
 use Rattle.object_registry.specs.Registered.{loaded, put_loaded}
-use Rattle.object_registry.proofs.Numbers.{Compared, Below, Same, Above, compared}
 use Rattle.lazy_refs.specs.Steps.{object_in, object_of, reason_in, reason_of}
 use Rattle.lazy_refs.specs.Walks.{object_at}
 use Rattle.lazy_refs.specs.declared.step.Reason.{Reason}

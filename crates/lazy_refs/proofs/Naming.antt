@@ -1,22 +1,20 @@
 -- Pairs and members by their names: the tests of the model and the words of the lower crates.
-use Rattle.std.proofs.Common.{◌≡◌, ℕ, zero, suc, Bool, true, false, cond, ◌&&◌, List, [], ◌∷◌, Option, Some, None, refl, sym, ap, ◌∙◌, subst, inl, inr}
-use Rattle.std.specs.Prelude.{slice_get, option_map, map, unwrap_or, IfSome, IsSomeAnd}
+use Rattle.std.proofs.Common.{◌≡◌, ℕ, zero, suc, Bool, true, false, ◌&&◌, List, [], ◌∷◌, Option, Some, None, refl, sym, ap, ◌∙◌, subst}
+use Rattle.std.specs.Prelude.{slice_get, option_map, unwrap_or, IfSome, IsSomeAnd}
 use Rattle.std.specs.Borrow.{Bor}
 use Rattle.std.specs.Str.{bytes_eq}
-use Rattle.std.specs.List.{list_any}
 use Rattle.std.proofs.lemmas.Slice.Eq.{bytes_eq-Decides}
 use Rattle.std.proofs.lemmas.Bool.{and_parts, and_from}
 use Rattle.std.proofs.lemmas.Option.{slice_get-map}
 use Rattle.type_desc.specs.declared.desc.Member.{Member}
-use Rattle.type_desc.specs.declared.desc.TypeDesc.{TypeDesc}
 use Rattle.refactor_table.specs.Names.{AreOfOneForm}
 use Rattle.refactor_table.specs.Pairs.{AreSound, Leads, pair_of}
 use Rattle.refactor_table.specs.declared.name.Pair.{Pair}
 use Rattle.refactor_table.specs.declared.name.RefName.{RefName}
 use Rattle.refactor_table.specs.declared.name.RefName.TheVariants.{OfType, OfMember}
-use Rattle.legacy_mapping.specs.Sources.{IsNamed, names_of}
+use Rattle.legacy_mapping.specs.Sources.{IsNamed}
 use Rattle.session_model.specs.Types.{is_same_ref_name, leads, type_in, target_name}
-use Rattle.lazy_refs.proofs.Finding.{PassesAt, any_at, any_from}
+use Rattle.lazy_refs.proofs.Finding.{any_at, any_from}
 
 pub same_bytes : (xs ys : List ℕ) → bytes_eq xs ys ≡ true → xs ≡ ys
 same_bytes xs ys h = (bytes_eq-Decides xs ys).0 h

@@ -1,17 +1,16 @@
 -- The sources of the model are those that a plan has, and kinds differ where a plan says so.
-use Rattle.std.proofs.Common.{◌≡◌, ℕ, zero, suc, ◌<◌, Bool, true, false, cond, not, ◌&&◌, List, [], ◌∷◌, length, Option, Some, None, refl, sym, ap, ◌∙◌, subst}
-use Rattle.std.specs.Prelude.{slice_get, option_map, ◌≢◌}
+use Rattle.std.proofs.Common.{◌≡◌, ℕ, zero, suc, Bool, true, false, not, ◌&&◌, List, [], ◌∷◌, Option, Some, None, refl, sym, ap, ◌∙◌, subst}
+use Rattle.std.specs.Prelude.{slice_get, option_map}
 use Rattle.std.specs.Str.{bytes_eq}
 use Rattle.std.specs.List.{AllZip, position}
-use Rattle.std.proofs.lemmas.Bool.{cases_Bool, and_parts, and_from, not-true}
+use Rattle.std.proofs.lemmas.Bool.{and_parts, and_from, not-true}
 use Rattle.type_desc.specs.declared.desc.Kind.{Kind}
 use Rattle.type_desc.specs.declared.desc.Kind.TheVariants as kinds
 use Rattle.type_desc.specs.declared.desc.Member.{Member}
 use Rattle.type_desc.specs.declared.desc.TypeDesc.{TypeDesc}
 use Rattle.refactor_table.specs.Pairs.{AreSound, Leads, pair_of}
 use Rattle.refactor_table.specs.declared.name.Pair.{Pair}
-use Rattle.refactor_table.specs.declared.name.RefName.{RefName}
-use Rattle.refactor_table.specs.declared.name.RefName.TheVariants.{OfType, OfMember}
+use Rattle.refactor_table.specs.declared.name.RefName.TheVariants.{OfMember}
 use Rattle.legacy_mapping.specs.Faults.{DiffersAt, HaveOneKind}
 use Rattle.legacy_mapping.specs.Sources.{AreSources, HaveOwnNames, IsAlike, IsCarried, IsNamed, IsPaired, IsSource, names_of}
 use Rattle.legacy_mapping.proofs.Plans.{source_within}

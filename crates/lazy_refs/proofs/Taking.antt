@@ -3,8 +3,8 @@ use Rattle.std.proofs.Common.{◌≡◌, ℕ, Bool, true, false, cond, not, ◌|
 use Rattle.std.specs.Prelude.{nat_eq, is_some, option_and_then}
 use Rattle.std.specs.List.{filter}
 use Rattle.std.proofs.lemmas.Bool.{or_cases, or_left, or_right, eq-eqb, eqb-true}
-use Rattle.graph_model.specs.Ids.{has, insert}
-use Rattle.graph_model.specs.Graph.{Graph, edges_of, entity_of, has_edge, lists}
+use Rattle.graph_model.specs.Ids.{has}
+use Rattle.graph_model.specs.Graph.{Graph, edges_of, entity_of, lists}
 use Rattle.graph_model.specs.declared.entity.Entity.{Entity}
 use Rattle.graph_model.proofs.IdSets.{has_append, has_insert}
 use Rattle.graph_model.proofs.Walks.{IsSearch, looks_now}
@@ -15,9 +15,9 @@ use Rattle.session_model.specs.Commands.{or_else}
 use Rattle.session_model.specs.Instances.{Instances, has_instance}
 use Rattle.session_model.specs.Loading.{Converted, conversion, eager_refs, loading_graph}
 use Rattle.lazy_refs.specs.Steps.{IsLeast, IsNamed, IsOutward, IsWalked, object_in, object_of, reason_in, reason_of}
-use Rattle.lazy_refs.specs.Walks.{Progress, Takes, loaded_ids, loads_with, object_at, refuses_with, wanted}
+use Rattle.lazy_refs.specs.Walks.{Progress, Takes, loaded_ids, loads_with, object_at, wanted}
 use Rattle.lazy_refs.proofs.Orders.{loaded_ids-append, named_more, object_at-append, or_none, outward_more}
-use Rattle.lazy_refs.proofs.Refusing.{IsMore, is_in, least_more, which}
+use Rattle.lazy_refs.proofs.Refusing.{IsMore, least_more, which}
 use Rattle.lazy_refs.proofs.Turning.{nothing_more}
 
 -- ---- the graph that loading walks

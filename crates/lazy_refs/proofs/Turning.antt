@@ -1,11 +1,7 @@
 -- What the parts of a call change.
-use Rattle.std.proofs.Common.{◌≡◌, ℕ, Bool, true, false, List, [], ◌∷◌, ◌++◌, Option, Some, None, Result, Ok, Err, refl, sym, ap, ◌∙◌, subst}
+use Rattle.std.proofs.Common.{◌≡◌, false, List, [], ◌∷◌, ◌++◌, Result, Ok, Err, refl, sym, ap, ◌∙◌, subst}
 use Rattle.std.specs.Prelude.{IfOk}
 use Rattle.graph_model.specs.Ids.{has, insert}
-use Rattle.graph_model.specs.declared.entity.Entity.{Entity}
-use Rattle.type_desc.specs.declared.desc.TypeDesc.{TypeDesc}
-use Rattle.entity_form.specs.declared.value.Object.{Object}
-use Rattle.refactor_table.specs.declared.name.Pair.{Pair}
 use Rattle.session_model.specs.Instances.{Instances}
 use Rattle.session_model.specs.Loading.{Converted}
 use Rattle.lazy_refs.specs.Walks.{Progress, IsAsFar, Takes, Turns, lower_of, of_reason, refused_as}

@@ -1,7 +1,7 @@
 -- Waiting ids that are looked at from the end.
-use Rattle.std.proofs.Common.{◌≡◌, ℕ, Bool, true, false, ◌||◌, List, [], ◌∷◌, ◌++◌, inl, inr, refl, sym, ap, ◌∙◌, subst}
+use Rattle.std.proofs.Common.{◌≡◌, ℕ, true, false, ◌||◌, List, [], ◌∷◌, ◌++◌, inl, inr, sym, ◌∙◌, subst}
 use Rattle.std.specs.Prelude.{nat_eq}
-use Rattle.std.proofs.lemmas.Bool.{or_cases, or_left, or_right, eqb-true, both_ways}
+use Rattle.std.proofs.lemmas.Bool.{or_cases, or_left, or_right, eqb-true}
 use Rattle.graph_model.specs.Ids.{has}
 use Rattle.graph_model.proofs.IdSets.{has_append}
 use Rattle.lazy_refs.specs.Walks.{AreKnown, IsNext}

@@ -5,7 +5,6 @@ use Rattle.type_desc.specs.declared.desc.TypeDesc.{TypeDesc}
 use Rattle.entity_form.specs.Form.{Holds}
 use Rattle.entity_form.specs.Values.{kinds_of}
 use Rattle.entity_form.specs.declared.value.Object.{Object}
-use Rattle.entity_form.specs.declared.value.Value.{Value}
 use Rattle.session_model.specs.Types.{desc_of}
 
 -- the entity's type is known, and the entity holds the values of this object of it

@@ -1,5 +1,5 @@
 -- What a loading promises of the graph whose entities it is given.
-use Rattle.std.specs.Prelude.{◌≡◌, ◌⊎◌, ℕ, ◌≤◌, ◌||◌, Bool, true, false, if◌then◌else◌, List, [], ◌∷◌, ◌++◌, Option, Some, None, option_and_then, Ok, Err, codes}
+use Rattle.std.specs.Prelude.{◌≡◌, ◌⊎◌, ℕ, ◌≤◌, ◌||◌, true, false, if◌then◌else◌, List, [], ◌∷◌, ◌++◌, Option, Some, None, option_and_then, Ok, Err, codes}
 use Rattle.graph_model.specs.Ids.{has, rises}
 use Rattle.graph_model.specs.Graph.{Graph, entity_of, has_edge, ids, lists, IsReached}
 use Rattle.graph_model.specs.declared.entity.Entity.{Entity}

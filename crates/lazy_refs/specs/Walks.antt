@@ -1,14 +1,13 @@
 -- How far a loading has come, and what one call changes.
-use Rattle.std.specs.Prelude.{◌≡◌, ◌⊎◌, ℕ, ◌≤◌, Bool, true, false, not, ◌||◌, nat_eq, nat_lt, if◌then◌else◌, List, [], ◌∷◌, ◌++◌, map, Option, Some, None, option_and_then}
+use Rattle.std.specs.Prelude.{◌≡◌, ℕ, true, false, not, ◌||◌, nat_eq, nat_lt, if◌then◌else◌, List, [], ◌∷◌, ◌++◌, map, Option, Some, None}
 use Rattle.std.specs.List.{filter}
-use Rattle.graph_model.specs.Ids.{has, insert, rises}
-use Rattle.graph_model.specs.Graph.{Graph, entity_of, has_edge, ids, lists, IsReached}
+use Rattle.graph_model.specs.Ids.{has, insert}
 use Rattle.graph_model.specs.declared.entity.Entity.{Entity}
 use Rattle.type_desc.specs.declared.desc.TypeDesc.{TypeDesc}
 use Rattle.entity_form.specs.declared.value.Object.{Object}
 use Rattle.refactor_table.specs.declared.name.Pair.{Pair}
 use Rattle.session_model.specs.Instances.{Instances, has_instance}
-use Rattle.session_model.specs.Loading.{Converted, conversion, eager_refs, loading_graph}
+use Rattle.session_model.specs.Loading.{Converted, eager_refs}
 use Rattle.lazy_refs.specs.Forms.{HasForm, IsObjectOf}
 use Rattle.lazy_refs.specs.Mappings.{Becomes, seen}
 use Rattle.lazy_refs.specs.declared.mapping.Mapping.{Mapping}

@@ -1,7 +1,5 @@
 use Rattle.std.proofs.Common.{◌≡◌, true, false, [], sym, ◌∙◌, arith}
 use Rattle.std.proofs.lemmas.Grind.{common_steps}
-use Rattle.std.proofs.lemmas.Bool.{not-true, not-false}
-use Rattle.graph_model.specs.Ids.{has}
 use Rattle.object_registry.proofs.Numbers.{contains-has}
 use Rattle.lazy_refs.proofs.Waiting.{all_left, last_done, last_fresh, none_left}
 use Rattle.lazy_refs.proofs.loading.next_waiting.Goals as goal

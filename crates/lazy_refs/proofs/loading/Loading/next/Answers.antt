@@ -1,4 +1,4 @@
-use Rattle.std.proofs.Common.{Some, subst}
+use Rattle.std.proofs.Common.{subst}
 use Rattle.std.specs.Prelude.{Option}
 use Rattle.graph_model.specs.declared.entity.Entity.{Entity}
 use Rattle.lazy_refs.specs.Steps.{IsGiven}

@@ -1,5 +1,5 @@
 use Rattle.std.proofs.Common.{sym, ap, ◌∙◌}
-use Rattle.session_model.specs.Types.{latest_id, target_name}
+use Rattle.session_model.specs.Types.{latest_id}
 use Rattle.lazy_refs.proofs.Alike.{latest-same}
 use Rattle.lazy_refs.proofs.Applying.{made_from, no_latest}
 use Rattle.lazy_refs.proofs.mapping.Mapper.to_latest.Goals as goal
