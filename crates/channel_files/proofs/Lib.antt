@@ -8,3 +8,4 @@ pub mod Allowed
 pub mod Refusals
 pub mod OtherFiles
 pub mod AtOk
+pub mod OneEntity

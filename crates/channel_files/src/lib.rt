@@ -19,4 +19,6 @@ pub use place::Place;
 pub use sizes::Sizes;
 
 #[cfg(test)]
+mod silent_disk;
+#[cfg(test)]
 mod tests;

@@ -1,10 +1,11 @@
-ghost use Rattle.std.specs.Prelude.{◌≡◌, ◌≤◌, [], length, IfOk};
-ghost use Rattle.store_io.specs.MemDisk.{disk_reads};
+ghost use Rattle.std.specs.Prelude.{◌≡◌, ◌≤◌, [], IsTrue, length, IfOk};
 ghost use Rattle.transactions_file.specs.Inventory.{start};
 ghost use Rattle.channel_files.specs.Channel.{IsOfDisk};
 
 use super::*;
-use gated_log::{LogFault, begin};
+use crate::silent_disk::SilentDisk;
+use entity_form::Header;
+use gated_log::{GatedLog, LogFault, begin};
 use std::alloc::{AllocError, Global};
 use std::test::Fail;
 use store_io::{Disk, MemDisk};
@@ -19,16 +20,16 @@ const LOG: [u8; 69] =
     *b"ESC1\x01\0\x02\0\x01\x09\0\0\0\x01\x02\0\0\0\0\0\0\0\x01\x29\0\0\0\x02\x01\0\0\0\0\0\0\0\x02\0\0\0\0\0\0\0\0\0\0\0\0\0\0\0\x38\0\0\0\0\0\0\0\x01\x04\0\0\0\0\0\0\0";
 
 /// The files of channel 0 of 2 on a disk without files.
-fn open(
+fn open<D: Disk + Drop>(
     alloc: Global,
-    mut disk: MemDisk,
+    mut disk: D,
     window: &mut [u8],
-) -> Result<ChannelFiles<MemDisk>, LogFault>
+) -> Result<ChannelFiles<D>, LogFault>
     requires window { 1048576 ≤ length window.old }
-    requires empty { disk_reads disk 0 ≡ [] }
+    requires empty { IsTrue D.tells → D.reads disk 0 ≡ [] }
     ensures state { IfOk result (λ files. files.transactions.inventory.state ≡ start) }
     ensures confirmed { IfOk result (λ files. files.confirmed ≡ 0) }
-    ensures of_disk { IfOk result (λ files. IsOfDisk files.transactions (disk_reads files.disk)) }
+    ensures of_disk { IsTrue D.tells → IfOk result (λ files. IsOfDisk files.transactions (D.reads files.disk)) }
 {
     let mut opening = begin(&mut disk, 0, *b"ESC1\x01\x00\x02\x00")?;
     match opening.next(&mut disk, window)? {
@@ -43,6 +44,18 @@ fn open(
             };
             Ok(ChannelFiles::new(disk, transactions, sizes))
         }
+    }
+}
+
+/// An empty log in file 1.
+fn begin_log(disk: &mut SilentDisk, window: &mut [u8]) -> Result<GatedLog, LogFault>
+    requires window { 1048576 ≤ length window.old }
+    ensures file { IfOk result (λ log. log.file ≡ 1) }
+{
+    let mut opening = begin(disk, 1, *b"ESD1\x01\x00\x01\x00")?;
+    match opening.next(disk, window)? {
+        Some(_) => Err(LogFault::Header),
+        None => Ok(opening.finish(disk)?),
     }
 }
 
@@ -88,5 +101,37 @@ fn a_store_is_dropped(rt: HostRuntime) -> Result<(), Fail> {
     files.drop_store()?;
     assert_eq!(rt; files.inventory().last_store(), 0);
     assert_eq!(rt; files.inventory().next_id(), 1024);
+    Ok(())
+}
+
+#[test]
+fn an_entity_is_read(rt: HostRuntime) -> Result<(), Fail> {
+    let alloc = rt.alloc();
+    let mut window = window(alloc, 1_048_576)?;
+    let disk = SilentDisk::new(MemDisk::new(alloc, Vec::new(alloc), None));
+    let mut files = open(alloc, disk, &mut window)?;
+    files.prepare()?;
+    let place = files.store_chunk(1, &CHUNK, 1025)?;
+    let header = Header {
+        length: 56,
+        type_id: 16,
+        id: 1024,
+        count: 1,
+    };
+    let mut entity = [0; 56];
+    files.read_entity(place.file, place.at, header, &mut entity)?;
+    assert_eq!(rt; entity, CHUNK);
+    Ok(())
+}
+
+#[test]
+fn a_record_is_kept(rt: HostRuntime) -> Result<(), Fail> {
+    let alloc = rt.alloc();
+    let mut window = window(alloc, 1_048_576)?;
+    let mut disk = SilentDisk::new(MemDisk::new(alloc, Vec::new(alloc), None));
+    let mut log = begin_log(&mut disk, &mut window)?;
+    let mut files = open(alloc, disk, &mut window)?;
+    files.keep_record(&mut log, b"record")?;
+    assert_eq!(rt; log.count(), 1);
     Ok(())
 }
