@@ -8,4 +8,9 @@ pub mod BigStores
 pub mod Named
 pub mod Picked
 pub mod Asks
+pub mod TypeWords
+pub mod TypeLines
 pub mod Showing
+pub mod ExportWalks
+pub mod ExportLines
+pub mod ExportSteps

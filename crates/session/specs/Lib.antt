@@ -6,3 +6,5 @@ pub mod Changes
 pub mod StoreAsks
 pub mod Namings
 pub mod Shown
+pub mod Exports
+pub mod Declarations

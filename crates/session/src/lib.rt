@@ -3,6 +3,8 @@
 
 mod answers;
 mod changing;
+mod declaring;
+mod exporting;
 mod memory;
 mod naming;
 mod outcome;
@@ -12,6 +14,8 @@ mod storing;
 mod telling;
 
 pub use changing::{add_to, cut_from, set_member, set_root};
+pub use declaring::declare_type;
+pub use exporting::{Export, ExportStep};
 pub use memory::Memory;
 pub use naming::{drop_name, home, new, pick};
 pub use outcome::{Outcome, Phase, Purpose};
@@ -19,6 +23,8 @@ pub use refusal::{Refusal, Stop};
 pub use storing::{store, store_all};
 pub use telling::{collect, forget, show, tidy};
 
+#[cfg(test)]
+mod export_tests;
 #[cfg(test)]
 mod store_tests;
 #[cfg(test)]

@@ -34,7 +34,7 @@ fn desc_of<'a>(memory: &'a Memory, instance: &Instance) -> Option<&'a TypeDesc>
 }
 
 /// The text with a line feed behind it.
-fn with_line_feed(text: Bytes) -> Result<Bytes, NoMemory>
+pub fn with_line_feed(text: Bytes) -> Result<Bytes, NoMemory>
     ensures { IfOk result (λ line. line ≡ text ++ 10 ∷ []) }
 {
     let mut bytes = text.into_vec();

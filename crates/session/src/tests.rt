@@ -1,8 +1,11 @@
 //! Examples of lines.
 
+ghost use Rattle.std.specs.Prelude.{IfOk};
+ghost use Rattle.type_desc.specs.Grammar.{IsDesc};
+
 use crate::{
-    Memory, Outcome, Phase, Refusal, add_to, collect, cut_from, drop_name, forget, home, new, pick,
-    set_member, set_root, show, tidy,
+    Memory, Outcome, Phase, Refusal, add_to, collect, cut_from, declare_type, drop_name, forget,
+    home, new, pick, set_member, set_root, show, tidy,
 };
 use entity_form::default_object;
 use graph_model::Ask;
@@ -11,7 +14,7 @@ use refactor_table::RefactorTable;
 use script_text::{Index, Target};
 use std::alloc::Global;
 use std::test::Fail;
-use type_desc::{Text, TypeDesc};
+use type_desc::{DescFault, Text, TypeDesc, read_desc};
 use type_dictionary::Dictionary;
 
 /// A session that has begun on an empty store, with one type.
@@ -103,5 +106,33 @@ fn a_storage_is_asked(rt: HostRuntime) -> Result<(), Fail> {
     assert!(rt; matches!(&collect(), Outcome::Ask(Ask::Collect, Phase::Collecting)));
     assert!(rt; matches!(&tidy(alloc)?, Outcome::Ask(Ask::Tidy, Phase::Saying(_))));
     assert!(rt; Refusal::Full.code() == "full");
+    Ok(())
+}
+
+/// The description that a record gives.
+fn desc(alloc: Global, record: &str) -> Result<TypeDesc, DescFault>
+    ensures { IfOk result IsDesc }
+{
+    let (_, desc) = read_desc(alloc, record.as_bytes())?;
+    Ok(desc)
+}
+
+/// Whether the storage is asked to keep this record, and then this is said.
+fn keeps_type(outcome: &Outcome, record: &str, text: &str) -> bool {
+    match outcome {
+        Outcome::Ask(Ask::KeepType(bytes), Phase::Saying(said)) => {
+            bytes.as_slice() == record.as_bytes() && said.as_slice() == text.as_bytes()
+        }
+        _ => false,
+    }
+}
+
+#[test]
+fn a_type_is_declared(rt: HostRuntime) -> Result<(), Fail> {
+    let alloc = rt.alloc();
+    let mut memory = begun(alloc)?;
+    let record = "17 Line{ref from,ref to}";
+    let line = desc(alloc, record)?;
+    assert!(rt; keeps_type(&declare_type(&mut memory, &line)?, record, "type 17\n"));
     Ok(())
 }

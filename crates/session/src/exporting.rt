@@ -1,0 +1,223 @@
+//! The line `export`, as a machine of its own: it is given the entities that it asks for, and gives the lines one after another.
+
+ghost use Rattle.std.specs.Prelude.{◌≡◌, ◌++◌, ◌∷◌, [], ℕ, Bool, List, Some, None, true, false, IfOk, OnOk, MatchOption};
+ghost use Rattle.graph_model.specs.Graph.{Graph, entity_of, lists};
+ghost use Rattle.graph_model.specs.Ids.{has};
+ghost use Rattle.session_model.specs.Answer.{State};
+ghost use Rattle.session_model.specs.Sound.{IsRightGraph};
+ghost use Rattle.session.specs.Exports.{IsExporting, IsExportStep, IsGiven, IsLineOf, IsWalking, begun, looked, starts};
+
+use crate::answers::numbered_line;
+use crate::telling::with_line_feed;
+use entity_form::{DecodeFault, decode};
+use graph_export::line_of;
+use graph_model::{Bytes, Entity, NoMemory};
+use std::alloc::Global;
+use std::collections::BTreeSet;
+use std::marker::Model;
+use type_dictionary::Dictionary;
+
+/// The id of the root.
+const ROOT_ID: u64 = 1;
+
+/// What an export needs or gives next.
+#[derive(Debug, Drop)]
+pub enum ExportStep {
+    /// The next call is to be given the entity of this id.
+    Look(u64),
+    /// An entity's line, with its line feed. The next call is given none.
+    Line(Bytes),
+    /// The last line, with its line feed.
+    End(Bytes),
+    /// The entity of this id has not its type's form.
+    Broken { id: u64 },
+}
+
+/// What is done with the entity that comes next.
+#[derive(Clone, Copy, Debug, Drop)]
+pub enum Stage {
+    /// What it names is reached too.
+    Walking,
+    /// It is told as a line.
+    Telling,
+}
+
+/// The export of what the root reaches. Contracts see how far it has come.
+#[derive(Debug, Drop)]
+pub struct Export {
+    alloc: Global,
+    stage: Stage,
+    /// The id whose entity the next call is given.
+    asked: Option<u64>,
+    /// While walking, the ids whose entities were looked at; while telling, those that are not asked for again yet.
+    left: BTreeSet<u64>,
+    /// While walking, ids that were named; some may have been looked at or stand here twice.
+    waiting: Vec<u64>,
+    /// While telling, the number of all lines.
+    count: u64,
+}
+
+impl Model for Export {
+    ghost use Rattle.session.specs.Exports.{Exported};
+
+    ghost Value = { Exported };
+
+    ghost view = { λ e. record {
+      stage = e.stage;
+      asked = e.asked;
+      left = e.left.keys;
+      waiting = e.waiting.items;
+      count = e.count;
+    } };
+}
+
+/// Takes the last waiting id that was not looked at, and those behind it, off the list.
+fn next_waiting(waiting: &mut Vec<u64>, seen: &BTreeSet<u64>) -> Option<u64>
+    ensures { (g : Graph) (starts : List ℕ) → IsWalking g starts seen.now.keys waiting.old.items
+        → MatchOption result (IsWalking g starts seen.now.keys []) (λ id. (has id seen.now.keys ≡ false) × IsWalking g starts seen.now.keys (waiting.new.items ++ id ∷ [])) }
+{
+    while let Some(id) = waiting.pop() {
+        if !seen.contains(&id) {
+            return Some(id);
+        }
+    }
+    None
+}
+
+/// The entity's line by its stored type. None where the entity has not its type's form.
+fn entity_line(
+    alloc: Global,
+    types: &Dictionary,
+    id: u64,
+    entity: &Entity,
+) -> Result<Option<Bytes>, NoMemory>
+    ensures { IfOk result (IsLineOf types.now id entity.now) }
+{
+    let Some(desc) = types.by_id(entity.type_id) else {
+        return Ok(None);
+    };
+    match decode(alloc, entity, desc) {
+        Ok(object) => {
+            let text = line_of(alloc, id, &object, desc)?;
+            Ok(Some(with_line_feed(text)?))
+        }
+        Err(DecodeFault::BadForm { at: _ }) => Ok(None),
+        Err(DecodeFault::NoMemory) => Err(NoMemory),
+    }
+}
+
+impl Export {
+    /// The export of a graph that has the root, or has it not. It takes no memory.
+    pub fn start(alloc: Global, rooted: bool) -> Export
+        ensures begun { result ≡ begun rooted }
+        // For every right graph: nothing is told yet.
+        ensures exporting { (state : State) → IsRightGraph state.types state.next_id state.graph → rooted ≡ lists state.graph 1 → IsExporting state [] result }
+    {
+        let asked = if rooted { Some(ROOT_ID) } else { None };
+        Export {
+            alloc,
+            stage: Stage::Walking,
+            asked,
+            left: BTreeSet::new(alloc),
+            waiting: Vec::new(alloc),
+            count: 0,
+        }
+    }
+
+    /// Takes what the id's entity names as reached.
+    fn look(&mut self, id: u64, entity: &Entity) -> Result<(), NoMemory>
+        ensures { OnOk result (has id self.old.left ≡ false → self.new ≡ looked id entity.now self.old) }
+    {
+        self.left.insert(id)?;
+        entity.push_edges(&mut self.waiting)?;
+        self.asked = None;
+        Ok(())
+    }
+
+    /// Asks for the entity of the least id that is not told yet, or ends.
+    fn tell_next(&mut self) -> Result<ExportStep, NoMemory>
+        ensures step { (state : State) (text : List ℕ) → self.old.stage ≡ Stage.Telling → self.old.asked ≡ None → IsExporting state text self.old
+            → IfOk result (IsExportStep state text self.new) }
+    {
+        match self.left.pop_first() {
+            Some(id) => {
+                self.asked = Some(id);
+                Ok(ExportStep::Look(id))
+            }
+            None => Ok(ExportStep::End(numbered_line(self.alloc, "end ", self.count)?)),
+        }
+    }
+
+    /// All is reached: from now on it is told.
+    fn begin_telling(&mut self) -> Result<ExportStep, NoMemory>
+        ensures step { (state : State) → self.old.stage ≡ Stage.Walking → self.old.asked ≡ None → IsRightGraph state.types state.next_id state.graph
+            → IsWalking state.graph (starts state.graph) self.old.left [] → IfOk result (IsExportStep state [] self.new) }
+    {
+        self.stage = Stage::Telling;
+        self.count = self.left.len() as u64;
+        self.tell_next()
+    }
+
+    /// Asks for the next entity, where none is asked for.
+    fn go_on(&mut self) -> Result<ExportStep, NoMemory>
+        ensures step { (state : State) (text : List ℕ) → self.old.asked ≡ None → IsExporting state text self.old → IfOk result (IsExportStep state text self.new) }
+    {
+        match self.stage {
+            Stage::Walking => match next_waiting(&mut self.waiting, &self.left) {
+                Some(id) => {
+                    self.asked = Some(id);
+                    Ok(ExportStep::Look(id))
+                }
+                None => self.begin_telling(),
+            },
+            Stage::Telling => self.tell_next(),
+        }
+    }
+
+    /// Tells the line of the asked id's entity.
+    fn tell(&mut self, types: &Dictionary, id: u64, entity: &Entity) -> Result<ExportStep, NoMemory>
+        ensures step { (state : State) (text : List ℕ) → state.types ≡ types.now → self.old.stage ≡ Stage.Telling → self.old.asked ≡ Some id → IsExporting state text self.old
+            → entity_of state.graph id ≡ Some entity.now → IfOk result (IsExportStep state text self.new) }
+    {
+        self.asked = None;
+        match entity_line(self.alloc, types, id, entity) {
+            Ok(Some(line)) => Ok(ExportStep::Line(line)),
+            Ok(None) => Ok(ExportStep::Broken { id }),
+            Err(NoMemory) => Err(NoMemory),
+        }
+    }
+
+    /// Takes what the asked id's entity names, and goes on.
+    fn walk(&mut self, id: u64, entity: &Entity) -> Result<ExportStep, NoMemory>
+        ensures step { (state : State) (text : List ℕ) → self.old.stage ≡ Stage.Walking → self.old.asked ≡ Some id → IsExporting state text self.old
+            → entity_of state.graph id ≡ Some entity.now → IfOk result (IsExportStep state text self.new) }
+    {
+        match self.look(id, entity) {
+            Ok(()) => self.go_on(),
+            Err(NoMemory) => Err(NoMemory),
+        }
+    }
+
+    /// Takes the entity of the id that the call before asked for, and gives what comes next. The first call is given none, and so is one after a
+    /// line, or one that is to ask once more. After `NoMemory`, and after the end or a broken entity, the export is given up.
+    pub fn next(
+        &mut self,
+        types: &Dictionary,
+        given: Option<Entity>,
+    ) -> Result<ExportStep, NoMemory>
+        // Over every right graph that has the given entity: what was told, with what is told now, is what the model says.
+        ensures step { (state : State) (text : List ℕ) → state.types ≡ types.now → IsExporting state text self.old → IsGiven state.graph self.old given
+            → IfOk result (IsExportStep state text self.new) }
+    {
+        let Some(id) = self.asked else {
+            return self.go_on();
+        };
+        let Some(entity) = given else {
+            return Ok(ExportStep::Look(id));
+        };
+        match self.stage {
+            Stage::Walking => self.walk(id, &entity),
+            Stage::Telling => self.tell(types, id, &entity),
+        }
+    }
+}
