@@ -10,3 +10,4 @@ pub mod Refusing
 pub mod Taking
 pub mod Loads
 pub mod Ending
+pub mod Advancing

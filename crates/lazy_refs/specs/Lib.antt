@@ -2,3 +2,4 @@ pub mod Forms
 pub mod Mappings
 pub mod Walks
 pub mod Steps
+pub mod Advances

@@ -2,6 +2,7 @@ use Rattle.std.proofs.Common.{subst}
 use Rattle.std.specs.Prelude.{Option}
 use Rattle.graph_model.specs.declared.entity.Entity.{Entity}
 use Rattle.lazy_refs.specs.Steps.{IsGiven}
+use Rattle.lazy_refs.proofs.Advancing.{done_next}
 use Rattle.lazy_refs.proofs.Ending.{stepped}
 use Rattle.lazy_refs.proofs.Turning.{if_ok}
 use Rattle.lazy_refs.proofs.loading.Loading.next.Goals as goal
@@ -10,3 +11,7 @@ pub returns-in-Some-clause-step : goal.returns-in-Some-clause-step
 returns-in-Some-clause-step c = λ g start loading given.
     let at = subst (λ (o : Option Entity). IsGiven g c.args.self.now o) c.in-Some.is given in
     if_ok _ _ c.take.result (λ step t. stepped c.args.types.now c.args.table.now c.args.registry.now.instances g start c.in-Some.entity c.args.self.now c.take.new.self step loading at t) c.take.ensures.step
+
+pub returns-in-Some-clause-done : goal.returns-in-Some-clause-done
+returns-in-Some-clause-done c = rw c.in-Some.is
+    (if_ok _ _ c.take.result (λ step t. done_next c.args.types.now c.args.table.now c.args.registry.now.instances c.in-Some.entity c.args.self.now c.take.new.self step t) c.take.ensures.step)

@@ -1,0 +1,12 @@
+-- With each entity that it takes, a loading comes nearer to its end.
+use Rattle.std.specs.Prelude.{◌≡◌, false, Option, Some}
+use Rattle.graph_model.specs.Ids.{has, insert}
+use Rattle.graph_model.specs.declared.entity.Entity.{Entity}
+use Rattle.lazy_refs.specs.Walks.{Progress}
+use Rattle.lazy_refs.specs.declared.step.LoadStep.{LoadStep}
+use Rattle.lazy_refs.specs.declared.step.LoadStep.TheVariants as steps
+
+-- where an entity was given and another id is asked for, the id before it is done too
+abbrev pub IsDoneNext : Option Entity → Progress → Progress → LoadStep → Type 0
+IsDoneNext (Some entity) old new (steps.Want id) = has old.asked old.done ≡ false → new.done ≡ insert old.asked old.done
+IsDoneNext _ old new step = Unit {0}
