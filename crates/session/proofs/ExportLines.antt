@@ -23,7 +23,7 @@ use Rattle.session_model.specs.Loading.{values_in}
 use Rattle.session_model.specs.Answer.{State, exported, no_desc}
 use Rattle.session_model.specs.Sound.{IsRightGraph}
 use Rattle.session_model.proofs.SameIds.{above_first, rises-tail}
-use Rattle.session.specs.Exports.{IsLineOf, IsTelling, IsWalking, line_at, no_entity, reached_from_root, starts}
+use Rattle.session.specs.Exports.{IsLine, IsLineOf, IsTelling, IsWalking, line_at, no_entity, reached_from_root, starts}
 use Rattle.session.specs.declared.exporting.Stage.TheVariants as stages
 use Rattle.session.proofs.ExportWalks.{all_reached, records_rise}
 
@@ -38,6 +38,10 @@ line_is types id entity desc object bytes known of_type holds told = λ state sa
   where
     as_object : ℕ → List Value → Object
     as_object t vs = record { type_id = t; values = vs }
+
+-- it ends with a line feed
+pub is_line : (state : State) (types : List TypeDesc) (id : ℕ) (entity : Entity) (bytes : List ℕ) → state.types ≡ types → IsLineOf types id entity (Some bytes) → IsLine bytes
+is_line state types id entity bytes same line_of = (_, line_of state same)
 
 -- the lines by the ids of records that stand in the graph
 lines_are : (state : State) (rs : Graph) → rises (ids rs) ≡ true → ((x : ℕ) (e : Entity) → entity_of rs x ≡ Some e → entity_of state.graph x ≡ Some e)

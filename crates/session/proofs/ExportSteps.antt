@@ -1,6 +1,7 @@
 -- What one call of an export keeps.
-use Rattle.std.proofs.Common.{◌≡◌, ℕ, true, false, List, [], ◌∷◌, ◌++◌, append_assoc, Option, Some, None, refl, sym, ap, ◌∙◌, subst}
-use Rattle.std.specs.Prelude.{nat_eq, unwrap_or}
+use Rattle.std.proofs.Common.{◌≡◌, ℕ, true, false, List, [], ◌∷◌, ◌++◌, length, append_assoc, Option, Some, None, refl, sym, ap, ◌∙◌, subst}
+use Rattle.std.specs.Prelude.{codes, nat_eq, unwrap_or}
+use Rattle.std.specs.Fmt.{decimal}
 use Rattle.std.specs.List.{flat_map}
 use Rattle.std.proofs.lemmas.Bool.{eq-eqb, or_left, or_right}
 use Rattle.graph_model.specs.Ids.{has, insert}
@@ -9,8 +10,8 @@ use Rattle.graph_model.specs.declared.entity.Entity.{Entity}
 use Rattle.graph_model.proofs.IdSets.{has_append}
 use Rattle.type_desc.specs.declared.desc.TypeDesc.{TypeDesc}
 use Rattle.session_model.specs.Types.{desc_of}
-use Rattle.session_model.specs.Answer.{State, exported}
-use Rattle.session.specs.Exports.{Exported, IsExporting, IsFresh, IsInStage, IsLineOf, IsTelling, IsWalking, due, line_at, looked, no_entity, reached_from_root, starts}
+use Rattle.session_model.specs.Answer.{State, export_turn, exported}
+use Rattle.session.specs.Exports.{Exported, IsExporting, IsFresh, IsInStage, IsLine, IsLineOf, IsTelling, IsWalking, due, line_at, looked, no_entity, reached_from_root, starts}
 use Rattle.session.specs.declared.exporting.Stage.{Stage}
 use Rattle.session.specs.declared.exporting.Stage.TheVariants as stages
 use Rattle.session.proofs.ExportWalks.{open_is_exported, walks_now}
@@ -19,7 +20,7 @@ none_more : (xs : List ℕ) → xs ≡ xs ++ []
 none_more [] = refl
 none_more (x ∷ xs) = ap (λ (ys : List ℕ). x ∷ ys) (none_more xs)
 
-in_stage : (stage : Stage) (state : State) (text : List ℕ) (p : Exported) → p.stage ≡ stage → IsExporting state text p → IsInStage stage state text p
+pub in_stage : (stage : Stage) (state : State) (text : List ℕ) (p : Exported) → p.stage ≡ stage → IsExporting state text p → IsInStage stage state text p
 in_stage stage state text p is e = subst (λ (s : Stage). IsInStage s state text p) is e.at
 
 -- the last of a list is in it
@@ -96,6 +97,26 @@ tells state text bytes types p id entity same is asked e at line = record {
       count = t.count;
       kept = λ x h. t.kept x (subst (λ (o : Option ℕ). has x (due o ++ p.left) ≡ true) (sym asked) (or_right (nat_eq x id) (has x p.left) h));
     }
+
+-- where none is left, the last line ends the text
+pub ends : (state : State) (text bytes : List ℕ) (p : Exported) → p.stage ≡ stages.Telling → p.asked ≡ None → p.left ≡ [] → IsExporting state text p → bytes ≡ (codes "end " ++ decimal p.count) ++ 10 ∷ []
+    → IsLine bytes × (text ++ bytes ≡ (export_turn state).text)
+ends state text bytes p is none empty e last = (
+  (codes "end " ++ decimal p.count, last),
+  ap (λ (b : List ℕ). text ++ b) (last ∙ ap (λ (n : ℕ). (codes "end " ++ decimal n) ++ 10 ∷ []) t.count)
+      ∙ ap (λ (l : List ℕ). l ++ ((codes "end " ++ decimal (length (reached_from_root state))) ++ 10 ∷ [])) told,
+)
+  where
+    t : IsTelling state text p
+    t = in_stage stages.Telling state text p is e
+
+    told : text ≡ flat_map (exported state) (reached_from_root state)
+    told = none_more text ∙ subst (λ (xs : List ℕ). text ++ flat_map (line_at state) xs ≡ flat_map (exported state) (reached_from_root state)) empty
+        (subst (λ (o : Option ℕ). text ++ flat_map (line_at state) (due o ++ p.left) ≡ flat_map (exported state) (reached_from_root state)) none t.told)
+
+-- the id that is due while walking was not looked at
+pub fresh_while_walking : (state : State) (text : List ℕ) (p : Exported) (id : ℕ) → p.stage ≡ stages.Walking → p.asked ≡ Some id → IsExporting state text p → has id p.left ≡ false
+fresh_while_walking state text p id is asked e = subst (λ (o : Option ℕ). IsFresh o p.left) asked (in_stage stages.Walking state text p is e).2
 
 -- no entity of a right graph is broken
 pub none_broken : (state : State) (text : List ℕ) (types : List TypeDesc) (p : Exported) (id : ℕ) (entity : Entity) → state.types ≡ types → IsExporting state text p → entity_of state.graph id ≡ Some entity → IsLineOf types id entity None → ⊥

@@ -31,7 +31,8 @@ use Rattle.session.specs.declared.refusal.Stop.TheVariants.{Refused, NoMemory}
 use Rattle.session.specs.declared.refusal.Refusal.TheVariants as refusals
 use Rattle.session.specs.declared.storing.Storer.{Storer}
 use Rattle.session.specs.declared.storing.Storer.TheVariants.{Lazy, Eager}
-use Rattle.session.specs.Due.{Awaits, Replied, most_bytes, stored_text, without}
+use Rattle.session.specs.Due.{Awaits, Replied, stored_text, without}
+use Rattle.session.specs.Limits.{most_bytes}
 use Rattle.session.specs.Refusals.{IsRefusal}
 use Rattle.session.specs.Stands.{Stands, StandsAt}
 use Rattle.session.specs.StoreAsks.{Gathers, IsGathered, gathered_by}

@@ -1,25 +1,20 @@
 -- What is still due of a line: a turn of the model, of which the answers, the records and the stores are taken away one after another.
-use Rattle.std.specs.Prelude.{◌≡◌, ℕ, Bool, true, List, [], ◌∷◌, ◌++◌, codes}
+use Rattle.std.specs.Prelude.{◌≡◌, ℕ, Bool, List, [], ◌∷◌, ◌++◌, codes}
 use Rattle.std.specs.Fmt.{decimal}
 use Rattle.graph_model.specs.declared.ask.Ask.{Ask}
 use Rattle.graph_model.specs.declared.ask.Ask.TheVariants as asks
 use Rattle.graph_model.specs.declared.ask.Reply.{Reply}
 use Rattle.graph_model.specs.declared.ask.Reply.TheVariants as replies
 use Rattle.graph_model.specs.Served.{Storage, MayAsk, Served}
-use Rattle.session_model.specs.Answer.{State, Turn, ok, bound, command_turn}
-use Rattle.script_text.specs.Meaning.{meant}
+use Rattle.session_model.specs.Answer.{Turn}
 use Rattle.session.specs.declared.memory.Memory.{Memory}
 use Rattle.session.specs.declared.outcome.Outcome.{Outcome}
 use Rattle.session.specs.declared.outcome.Outcome.TheVariants as outcomes
 use Rattle.session.specs.declared.outcome.Phase.{Phase}
 use Rattle.session.specs.declared.outcome.Phase.TheVariants as phases
-use Rattle.session.specs.declared.outcome.Purpose.{Purpose}
-use Rattle.session.specs.declared.outcome.Purpose.TheVariants as purposes
+use Rattle.session.specs.Exports.{TellsEntity, TellsLine}
+use Rattle.session.specs.Loads.{GoesOn, TakesEntity}
 use Rattle.session.specs.Stands.{StandsAt}
-
--- the most bytes of the entities of one store
-abbrev pub most_bytes : ℕ
-most_bytes = 1048560
 
 abbrev pub rest_of : {A : Type 0} → List A → List A
 rest_of [] = []
@@ -60,19 +55,14 @@ stored_text number count = (codes "stored " ++ (decimal number ++ (32 ∷ decima
 abbrev pub kept_text : ℕ → List ℕ
 kept_text count = (codes "kept " ++ decimal count) ++ 10 ∷ []
 
--- the objects that were loaded are in memory: then the command comes, or the name is bound
-abbrev pub GoesOn : Purpose → Memory → Storage → Turn → Type 0
-GoesOn (purposes.Start command) memory storage turn =
-    (state : State) × StandsAt memory storage state × (state.started ≡ true) × (turn ≡ command_turn most_bytes state (meant command))
-GoesOn (purposes.Follow new id) memory storage turn =
-    (state : State) × StandsAt memory storage state × (turn ≡ ok (bound state new id))
-
 -- what is due once the reply has come
 abbrev pub Replied : Phase → Reply → Memory → Storage → Turn → Type 0
 Replied (phases.Saying text) reply memory storage turn = Answers text memory storage turn
 Replied (phases.Storing count) (replies.Stored number) memory storage turn = Answers (stored_text number count) memory storage turn
 Replied phases.Collecting (replies.Count count) memory storage turn = Answers (kept_text count) memory storage turn
-Replied (phases.Holding purpose) reply memory storage turn = GoesOn purpose memory storage turn
+Replied (phases.Looking loading purpose) (replies.Found entity) memory storage turn = TakesEntity purpose loading entity memory storage turn
+Replied (phases.Holding purpose) replies.Held memory storage turn = GoesOn purpose memory storage turn
+Replied (phases.Exporting export) (replies.Found entity) memory storage turn = TellsEntity export entity memory storage turn
 Replied _ _ memory storage turn = ⊥
 
 -- an ask that may be asked and is due; and what is due after it once it is served
@@ -85,3 +75,5 @@ pub record Awaits (is_next_type : List (List ℕ) → List ℕ → Bool) (ask : 
 abbrev pub Meets : (List (List ℕ) → List ℕ → Bool) → Outcome → Memory → Storage → Turn → Type 0
 Meets is_next_type (outcomes.Answer text) memory storage turn = Answers text memory storage turn
 Meets is_next_type (outcomes.Ask ask phase) memory storage turn = Awaits is_next_type ask phase memory storage turn
+Meets is_next_type (outcomes.Line text export) memory storage turn = TellsLine text export memory storage turn
+Meets is_next_type (outcomes.Broken id) memory storage turn = ⊥

@@ -1,5 +1,5 @@
 -- How far an export has come, and what it promises of the graph whose entities it is given.
-use Rattle.std.specs.Prelude.{◌≡◌, ℕ, Bool, true, false, ◌||◌, if◌then◌else◌, Option, Some, None, unwrap_or, List, [], ◌∷◌, ◌++◌, length}
+use Rattle.std.specs.Prelude.{◌≡◌, ℕ, Bool, true, false, ◌||◌, if◌then◌else◌, Option, Some, None, is_some, unwrap_or, List, [], ◌∷◌, ◌++◌, length}
 use Rattle.std.specs.List.{flat_map}
 use Rattle.graph_model.specs.Ids.{has, insert, rises}
 use Rattle.graph_model.specs.Graph.{Graph, IsReached, edges, entity_of, has_edge, lists}
@@ -9,8 +9,11 @@ use Rattle.entity_form.specs.Form.{Holds}
 use Rattle.entity_form.specs.Values.{kinds_of}
 use Rattle.entity_form.specs.declared.value.Value.{Value}
 use Rattle.session_model.specs.Types.{desc_of}
-use Rattle.session_model.specs.Answer.{State, export_turn, exported, reached_records}
+use Rattle.session_model.specs.Answer.{State, Turn, export_turn, exported, reached_records}
 use Rattle.session_model.specs.Sound.{IsRightGraph}
+use Rattle.graph_model.specs.Served.{Storage}
+use Rattle.session.specs.declared.memory.Memory.{Memory}
+use Rattle.session.specs.Stands.{StandsAt}
 use Rattle.session.specs.declared.exporting.ExportStep.{ExportStep}
 use Rattle.session.specs.declared.exporting.ExportStep.TheVariants as steps
 use Rattle.session.specs.declared.exporting.Stage.{Stage}
@@ -92,14 +95,45 @@ abbrev pub IsGiven : Graph → Exported → Option Entity → Type 0
 IsGiven g p None = Unit {0}
 IsGiven g p (Some entity) = (x : ℕ) → p.asked ≡ Some x → entity_of g x ≡ Some entity
 
+-- a line, with its line feed
+abbrev pub IsLine : List ℕ → Type 0
+IsLine bytes = (front : List ℕ) × (bytes ≡ front ++ 10 ∷ [])
+
 -- an id is asked for that the root reaches; or a line was told; or with the last line the text is the model's. No entity is broken.
 abbrev pub IsExportStep : State → List ℕ → Exported → ExportStep → Type 0
 IsExportStep state text p (steps.Look id) = (p.asked ≡ Some id) × (lists (reached_from_root state) id ≡ true) × IsExporting state text p
-IsExportStep state text p (steps.Line bytes) = (p.asked ≡ None) × IsExporting state (text ++ bytes) p
-IsExportStep state text p (steps.End bytes) = text ++ bytes ≡ (export_turn state).text
+IsExportStep state text p (steps.Line bytes) = (p.asked ≡ None) × IsLine bytes × IsExporting state (text ++ bytes) p
+IsExportStep state text p (steps.End bytes) = IsLine bytes × (text ++ bytes ≡ (export_turn state).text)
 IsExportStep state text p (steps.Broken id) = ⊥
 
 -- the line of the entity, by its stored type; or it has not its type's form
 abbrev pub IsLineOf : List TypeDesc → ℕ → Entity → Option (List ℕ) → Type 0
 IsLineOf types id entity None = (desc : TypeDesc) (values : List Value) → desc_of types entity.type_id ≡ Some desc → ¬ (Holds (kinds_of desc) entity.refs entity.plain values)
 IsLineOf types id entity (Some bytes) = (state : State) → state.types ≡ types → bytes ≡ exported state (record { id = id; entity = entity })
+
+-- ---- the line `export`
+
+-- the state is where the script stands, and of the answer this text was told; the rest is due, and nothing else
+pub record IsTellingFor (export : Exported) (memory : Memory) (storage : Storage) (turn : Turn) : Type 0 where
+  pub state : State
+  pub stands : StandsAt memory storage state
+  pub text : List ℕ
+  pub exporting : IsExporting state text export
+  pub told : text ++ turn.text ≡ (export_turn state).text
+  pub records : turn.records ≡ []
+  pub stores : turn.stores ≡ []
+  pub state_is : turn.state ≡ state
+
+-- and the entity is that of the id that was asked for
+pub record TellsEntity (export : Exported) (entity : Entity) (memory : Memory) (storage : Storage) (turn : Turn) : Type 0 where
+  pub telling : IsTellingFor export memory storage turn
+  pub given : IsGiven storage.graph export (Some entity)
+  pub asked : is_some export.asked ≡ true
+
+-- the line is due next, and what is due behind it is told later
+pub record TellsLine (line : List ℕ) (export : Exported) (memory : Memory) (storage : Storage) (turn : Turn) : Type 0 where
+  pub rest : List ℕ
+  pub text : turn.text ≡ line ++ rest
+  pub is_line : IsLine line
+  pub telling : IsTellingFor export memory storage (record turn { text = rest })
+  pub asked : export.asked ≡ None

@@ -9,7 +9,7 @@ use Rattle.session.specs.declared.refusal.Stop.TheVariants.{Refused, NoMemory}
 use Rattle.session.specs.declared.refusal.Refusal.TheVariants.{NoName, TooBig}
 use Rattle.session.specs.declared.storing.Storer.{Storer}
 use Rattle.session.specs.declared.storing.Storer.TheVariants.{Lazy, Eager}
-use Rattle.session.specs.Due.{most_bytes}
+use Rattle.session.specs.Limits.{most_bytes}
 
 -- the ids that are gathered from a start
 abbrev pub gathered_by : Storer → Instances → ℕ → List ℕ

@@ -11,6 +11,7 @@ ghost use Rattle.object_registry.specs.Bindings.{SameNames};
 ghost use Rattle.script_text.specs.Meaning.{target_meant};
 ghost use Rattle.session.specs.Stands.{StandsAt};
 ghost use Rattle.session.specs.Due.{Meets};
+ghost use Rattle.session.specs.Steps.{IsShort};
 ghost use Rattle.session.specs.Refusals.{Says};
 ghost use Rattle.session.specs.Changes.{Gives, IsChange, MayChange, root_value};
 
@@ -55,8 +56,9 @@ fn apply(memory: &mut Memory, judged: Result<Change, Stop>) -> Result<Bytes, Sto
 
 fn changed(memory: &mut Memory, judged: Result<Change, Stop>) -> Result<Outcome, NoMemory>
     requires { IfOk judged (MayChange memory.old.registry) }
-    ensures { (is_next_type : List (List ℕ) → List ℕ → Bool) (storage : Storage) (state : State) (turn : Turn) → StandsAt memory.old storage state → IsChange judged state turn
+    ensures meets { (is_next_type : List (List ℕ) → List ℕ → Bool) (storage : Storage) (state : State) (turn : Turn) → StandsAt memory.old storage state → IsChange judged state turn
         → IsSound turn.state → IfOk result (λ outcome. Meets is_next_type outcome memory.new storage turn) }
+    ensures short { IfOk result IsShort }
 {
     let alloc = memory.alloc;
     let said = apply(memory, judged);
@@ -143,6 +145,7 @@ pub fn set_member(
 ) -> Result<Outcome, NoMemory>
     ensures meets { (is_next_type : List (List ℕ) → List ℕ → Bool) (storage : Storage) (state : State) → StandsAt memory.old storage state → state.started ≡ true
         → IsProperCommand (SetMember name.now member.now rest) → IfOk result (λ outcome. Meets is_next_type outcome memory.new storage (set_turn state name.now member.now rest)) }
+    ensures short { IfOk result IsShort }
 {
     let judged = set_change(memory, name, member, rest);
     changed(memory, judged)
@@ -185,6 +188,7 @@ pub fn add_to(
 ) -> Result<Outcome, NoMemory>
     ensures meets { (is_next_type : List (List ℕ) → List ℕ → Bool) (storage : Storage) (state : State) → StandsAt memory.old storage state → state.started ≡ true
         → IfOk result (λ outcome. Meets is_next_type outcome memory.new storage (add_turn state name.now member.now (target_meant target.now))) }
+    ensures short { IfOk result IsShort }
 {
     let judged = add_change(memory, name, member, target);
     changed(memory, judged)
@@ -228,6 +232,7 @@ pub fn cut_from(
 ) -> Result<Outcome, NoMemory>
     ensures meets { (is_next_type : List (List ℕ) → List ℕ → Bool) (storage : Storage) (state : State) → StandsAt memory.old storage state → state.started ≡ true
         → IfOk result (λ outcome. Meets is_next_type outcome memory.new storage (cut_turn state name.now member.now index.now)) }
+    ensures short { IfOk result IsShort }
 {
     let judged = cut_change(memory, name, member, index);
     changed(memory, judged)
@@ -264,6 +269,7 @@ fn root_change(memory: &Memory, name: &Text) -> Result<Change, Stop>
 pub fn set_root(memory: &mut Memory, name: &Text) -> Result<Outcome, NoMemory>
     ensures meets { (is_next_type : List (List ℕ) → List ℕ → Bool) (storage : Storage) (state : State) → StandsAt memory.old storage state → state.started ≡ true
         → IfOk result (λ outcome. Meets is_next_type outcome memory.new storage (root_turn state name.now)) }
+    ensures short { IfOk result IsShort }
 {
     let judged = root_change(memory, name);
     changed(memory, judged)

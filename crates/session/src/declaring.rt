@@ -8,6 +8,7 @@ ghost use Rattle.session_model.specs.Answer.{State, type_turn};
 ghost use Rattle.session.specs.Declarations.{IsJudgedType, IsNewType, IsSomeRecord};
 ghost use Rattle.session.specs.Stands.{Admits, StandsAt};
 ghost use Rattle.session.specs.Due.{Meets};
+ghost use Rattle.session.specs.Steps.{IsShort};
 
 use crate::answers::{numbered_line, outcome_of};
 use crate::memory::Memory;
@@ -39,8 +40,9 @@ fn judged_type(memory: &Memory, desc: &TypeDesc) -> Result<Declared, Stop>
 /// Adds the record of a new type, and asks the storage to keep it.
 fn keep_type(memory: &mut Memory, id: u64, text: Bytes) -> Result<Outcome, NoMemory>
     requires { IsSomeRecord memory.old.types text }
-    ensures { (is_next_type : List (List ℕ) → List ℕ → Bool) (desc : AnyDesc) (storage : Storage) (state : State) → IsNewType memory.old.types desc id text → Admits is_next_type
+    ensures meets { (is_next_type : List (List ℕ) → List ℕ → Bool) (desc : AnyDesc) (storage : Storage) (state : State) → IsNewType memory.old.types desc id text → Admits is_next_type
         → StandsAt memory.old storage state → IfOk result (λ outcome. Meets is_next_type outcome memory.new storage (type_turn state desc)) }
+    ensures short { IfOk result IsShort }
 {
     let answer = numbered_line(memory.alloc, "type ", id)?;
     match memory.types.add_record(text.as_slice()) {
@@ -55,6 +57,7 @@ pub fn declare_type(memory: &mut Memory, desc: &TypeDesc) -> Result<Outcome, NoM
     requires { IsDesc desc.now }
     ensures meets { (is_next_type : List (List ℕ) → List ℕ → Bool) (storage : Storage) (state : State) → Admits is_next_type → StandsAt memory.old storage state
         → IfOk result (λ outcome. Meets is_next_type outcome memory.new storage (type_turn state desc.now)) }
+    ensures short { IfOk result IsShort }
 {
     match judged_type(memory, desc) {
         Ok(Declared::Known(id)) => Ok(Outcome::Answer(numbered_line(memory.alloc, "type ", id)?)),

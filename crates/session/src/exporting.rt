@@ -1,11 +1,13 @@
 //! The line `export`, as a machine of its own: it is given the entities that it asks for, and gives the lines one after another.
 
-ghost use Rattle.std.specs.Prelude.{◌≡◌, ◌++◌, ◌∷◌, [], ℕ, Bool, List, Some, None, true, false, IfOk, OnOk, MatchOption};
+ghost use Rattle.std.specs.Prelude.{◌≡◌, ◌≤◌, ◌<◌, ◌++◌, ◌∷◌, [], ℕ, Bool, List, Some, None, true, false, is_some, IfOk, OnOk, MatchOption};
 ghost use Rattle.graph_model.specs.Graph.{Graph, entity_of, lists};
 ghost use Rattle.graph_model.specs.Ids.{has};
 ghost use Rattle.session_model.specs.Answer.{State};
 ghost use Rattle.session_model.specs.Sound.{IsRightGraph};
 ghost use Rattle.session.specs.Exports.{IsExporting, IsExportStep, IsGiven, IsLineOf, IsWalking, begun, looked, starts};
+ghost use Rattle.session.specs.ExportEnds.{steps_behind};
+ghost use Rattle.session.specs.Steps.{export_steps};
 
 use crate::answers::numbered_line;
 use crate::telling::with_line_feed;
@@ -18,7 +20,7 @@ use std::marker::Model;
 use type_dictionary::Dictionary;
 
 /// The id of the root.
-const ROOT_ID: u64 = 1;
+pub const ROOT_ID: u64 = 1;
 
 /// What an export needs or gives next.
 #[derive(Debug, Drop)]
@@ -138,6 +140,7 @@ impl Export {
     fn tell_next(&mut self) -> Result<ExportStep, NoMemory>
         ensures step { (state : State) (text : List ℕ) → self.old.stage ≡ Stage.Telling → self.old.asked ≡ None → IsExporting state text self.old
             → IfOk result (IsExportStep state text self.new) }
+        ensures nearer { (g : Graph) → self.old.stage ≡ Stage.Telling → self.old.asked ≡ None → IfOk result (λ step. steps_behind step self.new g < export_steps self.old g) }
     {
         match self.left.pop_first() {
             Some(id) => {
@@ -152,6 +155,7 @@ impl Export {
     fn begin_telling(&mut self) -> Result<ExportStep, NoMemory>
         ensures step { (state : State) → self.old.stage ≡ Stage.Walking → self.old.asked ≡ None → IsRightGraph state.types state.next_id state.graph
             → IsWalking state.graph (starts state.graph) self.old.left [] → IfOk result (IsExportStep state [] self.new) }
+        ensures few { (g : Graph) → self.old.stage ≡ Stage.Walking → self.old.asked ≡ None → IfOk result (λ step. steps_behind step self.new g ≤ export_steps self.old g) }
     {
         self.stage = Stage::Telling;
         self.count = self.left.len() as u64;
@@ -161,6 +165,7 @@ impl Export {
     /// Asks for the next entity, where none is asked for.
     fn go_on(&mut self) -> Result<ExportStep, NoMemory>
         ensures step { (state : State) (text : List ℕ) → self.old.asked ≡ None → IsExporting state text self.old → IfOk result (IsExportStep state text self.new) }
+        ensures few { (g : Graph) → self.old.asked ≡ None → IfOk result (λ step. steps_behind step self.new g ≤ export_steps self.old g) }
     {
         match self.stage {
             Stage::Walking => match next_waiting(&mut self.waiting, &self.left) {
@@ -178,6 +183,7 @@ impl Export {
     fn tell(&mut self, types: &Dictionary, id: u64, entity: &Entity) -> Result<ExportStep, NoMemory>
         ensures step { (state : State) (text : List ℕ) → state.types ≡ types.now → self.old.stage ≡ Stage.Telling → self.old.asked ≡ Some id → IsExporting state text self.old
             → entity_of state.graph id ≡ Some entity.now → IfOk result (IsExportStep state text self.new) }
+        ensures nearer { (g : Graph) → self.old.stage ≡ Stage.Telling → self.old.asked ≡ Some id → IfOk result (λ step. steps_behind step self.new g < export_steps self.old g) }
     {
         self.asked = None;
         match entity_line(self.alloc, types, id, entity) {
@@ -191,6 +197,7 @@ impl Export {
     fn walk(&mut self, id: u64, entity: &Entity) -> Result<ExportStep, NoMemory>
         ensures step { (state : State) (text : List ℕ) → self.old.stage ≡ Stage.Walking → self.old.asked ≡ Some id → IsExporting state text self.old
             → entity_of state.graph id ≡ Some entity.now → IfOk result (IsExportStep state text self.new) }
+        ensures nearer { (g : Graph) → self.old.stage ≡ Stage.Walking → has id self.old.left ≡ false → lists g id ≡ true → IfOk result (λ step. steps_behind step self.new g < export_steps self.old g) }
     {
         match self.look(id, entity) {
             Ok(()) => self.go_on(),
@@ -208,6 +215,10 @@ impl Export {
         // Over every right graph that has the given entity: what was told, with what is told now, is what the model says.
         ensures step { (state : State) (text : List ℕ) → state.types ≡ types.now → IsExporting state text self.old → IsGiven state.graph self.old given
             → IfOk result (IsExportStep state text self.new) }
+        // With the entity that was asked for the end is nearer, and without one no farther.
+        ensures nearer { (state : State) (text : List ℕ) → IsExporting state text self.old → is_some self.old.asked ≡ true → is_some given ≡ true → IsGiven state.graph self.old given
+            → IfOk result (λ step. steps_behind step self.new state.graph < export_steps self.old state.graph) }
+        ensures few { (g : Graph) → given ≡ None → IfOk result (λ step. steps_behind step self.new g ≤ export_steps self.old g) }
     {
         let Some(id) = self.asked else {
             return self.go_on();

@@ -7,6 +7,7 @@ ghost use Rattle.session_model.specs.Sound.{IsSound};
 ghost use Rattle.object_registry.specs.Bindings.{SameNames, binding};
 ghost use Rattle.session.specs.Stands.{StandsAt};
 ghost use Rattle.session.specs.Due.{Meets};
+ghost use Rattle.session.specs.Steps.{IsShort};
 ghost use Rattle.session.specs.Refusals.{Says};
 ghost use Rattle.session_model.specs.Types.{desc_of};
 ghost use Rattle.session.specs.Namings.{IsFreshObject, IsMaking, IsNaming, IsNotOpen, IsOpen, IsTargetAt, IsUnbound, target_of_root};
@@ -40,7 +41,11 @@ fn bind(registry: &mut Registry, name: &Text, id: u64) -> Result<(), NoMemory>
 }
 
 /// Binds the name to the id, which is answered `ok`.
-fn bind_found(memory: &mut Memory, name: &Text, judged: Result<u64, Stop>) -> Result<Bytes, Stop>
+pub fn bind_found(
+    memory: &mut Memory,
+    name: &Text,
+    judged: Result<u64, Stop>,
+) -> Result<Bytes, Stop>
     requires { IfOk judged (λ _. IsUnbound memory.old.registry name.now) }
     ensures { (storage : Storage) (state : State) (turn : Turn) → StandsAt memory.old storage state → IsNaming name.now judged state turn → IsSound turn.state
         → Says result memory.new storage turn }
@@ -79,6 +84,7 @@ fn home_id(memory: &Memory, name: &Text) -> Result<u64, Stop>
 pub fn home(memory: &mut Memory, name: &Text) -> Result<Outcome, NoMemory>
     ensures meets { (is_next_type : List (List ℕ) → List ℕ → Bool) (storage : Storage) (state : State) → StandsAt memory.old storage state → state.started ≡ true
         → IfOk result (λ outcome. Meets is_next_type outcome memory.new storage (home_turn state name.now)) }
+    ensures short { IfOk result IsShort }
 {
     let alloc = memory.alloc;
     let judged = home_id(memory, name);
@@ -129,6 +135,7 @@ pub fn pick(
 ) -> Result<Outcome, NoMemory>
     ensures meets { (is_next_type : List (List ℕ) → List ℕ → Bool) (storage : Storage) (state : State) → StandsAt memory.old storage state → state.started ≡ true
         → IfOk result (λ outcome. Meets is_next_type outcome memory.new storage (pick_turn state name.now member.now index.now new.now)) }
+    ensures short { IfOk result IsShort }
 {
     let alloc = memory.alloc;
     let judged = pick_id(memory, name, member, index, new);
@@ -155,6 +162,7 @@ fn unbind(memory: &mut Memory, name: &Text) -> Result<Bytes, Stop>
 pub fn drop_name(memory: &mut Memory, name: &Text) -> Result<Outcome, NoMemory>
     ensures meets { (is_next_type : List (List ℕ) → List ℕ → Bool) (storage : Storage) (state : State) → StandsAt memory.old storage state → state.started ≡ true
         → IfOk result (λ outcome. Meets is_next_type outcome memory.new storage (drop_turn state name.now)) }
+    ensures short { IfOk result IsShort }
 {
     let alloc = memory.alloc;
     let said = unbind(memory, name);
@@ -224,6 +232,7 @@ fn put_object(memory: &mut Memory, name: &Text, judged: Result<Object, Stop>) ->
 pub fn new(memory: &mut Memory, name: &Text, type_name: &Text) -> Result<Outcome, NoMemory>
     ensures meets { (is_next_type : List (List ℕ) → List ℕ → Bool) (storage : Storage) (state : State) → StandsAt memory.old storage state → state.started ≡ true
         → IfOk result (λ outcome. Meets is_next_type outcome memory.new storage (new_turn state name.now type_name.now)) }
+    ensures short { IfOk result IsShort }
 {
     let alloc = memory.alloc;
     let judged = new_object(memory, name, type_name);

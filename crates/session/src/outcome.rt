@@ -1,6 +1,8 @@
 //! What a command comes to.
 
+use crate::exporting::Export;
 use graph_model::{Ask, Bytes};
+use lazy_refs::Loading;
 use script_text::Command;
 use type_desc::Text;
 
@@ -22,8 +24,24 @@ pub enum Phase {
     Storing(u64),
     /// The number of kept entities.
     Collecting,
+    /// The entity that the loading asked for.
+    Looking(Loading, Purpose),
     /// The reply to `Hold`, once the objects are in memory.
     Holding(Purpose),
+    /// The entity that the export asked for.
+    Exporting(Export),
+}
+
+/// What a session waits for.
+#[derive(Debug, Drop)]
+pub enum Waiting {
+    /// A line of the script.
+    ForLine,
+    ForReply(Phase),
+    /// That the last line of the answer is printed.
+    ForPrinted,
+    /// That a line of the answer is printed, behind which the export goes on.
+    ForNextLine(Export),
 }
 
 /// What a command comes to, as far as the session gets alone.
@@ -33,4 +51,8 @@ pub enum Outcome {
     Answer(Bytes),
     /// The storage has to be asked first.
     Ask(Ask, Phase),
+    /// A line of the answer, with its line feed; the export goes on behind it.
+    Line(Bytes, Export),
+    /// The entity of this id has not its type's form, which no storage that serves gives.
+    Broken(u64),
 }

@@ -39,7 +39,7 @@ pub fn named<'a>(memory: &'a Memory, name: &Text) -> Option<(u64, &'a Instance)>
 }
 
 /// Where a type has a member of this name.
-fn index_in(desc: &TypeDesc, member: &Text) -> Option<usize>
+pub fn index_in(desc: &TypeDesc, member: &Text) -> Option<usize>
     ensures { result ≡ member_index desc.now member.now }
 {
     desc.members

@@ -8,7 +8,9 @@ ghost use Rattle.session_model.specs.Instances.{gathered_eagerly, gathered_lazil
 ghost use Rattle.storer.specs.Faults.{IsRefused};
 ghost use Rattle.storer.specs.Gathered.{AreKnown};
 ghost use Rattle.session.specs.Stands.{StandsAt};
-ghost use Rattle.session.specs.Due.{Meets, most_bytes};
+ghost use Rattle.session.specs.Due.{Meets};
+ghost use Rattle.session.specs.Steps.{IsShort};
+ghost use Rattle.session.specs.Limits.{most_bytes};
 ghost use Rattle.session.specs.StoreAsks.{Gathers, IsGathered, gathered_by};
 ghost use Rattle.session.specs.declared.storing.Storer.{Storer as AnyStorer};
 
@@ -92,6 +94,7 @@ fn ask_to_store(memory: &mut Memory, op: StoreOp) -> Result<Outcome, NoMemory>
     ensures known { AreKnown memory.old.types memory.old.registry.instances → AreKnown memory.new.types memory.new.registry.instances }
     ensures meets { (is_next_type : List (List ℕ) → List ℕ → Bool) (storer : AnyStorer) (name : List ℕ) (storage : Storage) (state : State) → Gathers storer memory.old name op
         → StandsAt memory.old storage state → state.started ≡ true → IfOk result (λ outcome. Meets is_next_type outcome memory.new storage (store_turn most_bytes state name (gathered_by storer))) }
+    ensures short { IfOk result IsShort }
 {
     let all = ids_of(memory.alloc, op.records.as_slice())?;
     memory.registry.stored(&all);
@@ -104,6 +107,7 @@ fn store_by(memory: &mut Memory, name: &Text, storer: Storer) -> Result<Outcome,
     ensures known { AreKnown memory.new.types memory.new.registry.instances }
     ensures meets { (is_next_type : List (List ℕ) → List ℕ → Bool) (storage : Storage) (state : State) → StandsAt memory.old storage state → state.started ≡ true
         → IfOk result (λ outcome. Meets is_next_type outcome memory.new storage (store_turn most_bytes state name.now (gathered_by storer))) }
+    ensures short { IfOk result IsShort }
 {
     match gather(memory, name, storer) {
         Ok(op) => ask_to_store(memory, op),
@@ -118,6 +122,7 @@ pub fn store(memory: &mut Memory, name: &Text) -> Result<Outcome, NoMemory>
     ensures known { AreKnown memory.new.types memory.new.registry.instances }
     ensures meets { (is_next_type : List (List ℕ) → List ℕ → Bool) (storage : Storage) (state : State) → StandsAt memory.old storage state → state.started ≡ true
         → IfOk result (λ outcome. Meets is_next_type outcome memory.new storage (store_turn most_bytes state name.now gathered_lazily)) }
+    ensures short { IfOk result IsShort }
 {
     store_by(memory, name, Storer::Lazy)
 }
@@ -129,6 +134,7 @@ pub fn store_all(memory: &mut Memory, name: &Text) -> Result<Outcome, NoMemory>
     ensures known { AreKnown memory.new.types memory.new.registry.instances }
     ensures meets { (is_next_type : List (List ℕ) → List ℕ → Bool) (storage : Storage) (state : State) → StandsAt memory.old storage state → state.started ≡ true
         → IfOk result (λ outcome. Meets is_next_type outcome memory.new storage (store_turn most_bytes state name.now gathered_eagerly)) }
+    ensures short { IfOk result IsShort }
 {
     store_by(memory, name, Storer::Eager)
 }

@@ -6,6 +6,7 @@ ghost use Rattle.session_model.specs.Answer.{State, answered, collect_turn, forg
 ghost use Rattle.session.specs.declared.memory.Memory.{Memory as AnyMemory};
 ghost use Rattle.session.specs.Stands.{StandsAt};
 ghost use Rattle.session.specs.Due.{Meets};
+ghost use Rattle.session.specs.Steps.{IsShort};
 ghost use Rattle.session.specs.Refusals.{Says};
 ghost use Rattle.session.specs.Shown.{IsDescOf, LacksDesc};
 
@@ -61,6 +62,7 @@ fn object_line(memory: &Memory, name: &Text) -> Result<Bytes, Stop>
 pub fn show(memory: &Memory, name: &Text) -> Result<Outcome, NoMemory>
     ensures meets { (is_next_type : List (List ℕ) → List ℕ → Bool) (storage : Storage) (state : State) → StandsAt memory.now storage state → state.started ≡ true
         → IfOk result (λ outcome. Meets is_next_type outcome memory.now storage (show_turn state name.now)) }
+    ensures short { IfOk result IsShort }
 {
     let said = object_line(memory, name);
     outcome_of(memory.alloc, said)
@@ -70,6 +72,7 @@ pub fn show(memory: &Memory, name: &Text) -> Result<Outcome, NoMemory>
 pub fn forget(memory: &mut Memory) -> Result<Outcome, NoMemory>
     ensures meets { (is_next_type : List (List ℕ) → List ℕ → Bool) (storage : Storage) (state : State) → StandsAt memory.old storage state → state.started ≡ true
         → IfOk result (λ outcome. Meets is_next_type outcome memory.new storage (forget_turn state)) }
+    ensures short { IfOk result IsShort }
 {
     let forgotten = memory.registry.forget()?;
     let text = numbered_line(memory.alloc, "forgot ", forgotten.count)?;
@@ -80,6 +83,7 @@ pub fn forget(memory: &mut Memory) -> Result<Outcome, NoMemory>
 pub fn collect() -> Outcome
     ensures meets { (is_next_type : List (List ℕ) → List ℕ → Bool) (memory : AnyMemory) (storage : Storage) (state : State) → StandsAt memory storage state
         → Meets is_next_type result memory storage (collect_turn state) }
+    ensures short { IsShort result }
 {
     Outcome::Ask(Ask::Collect, Phase::Collecting)
 }
@@ -88,6 +92,7 @@ pub fn collect() -> Outcome
 pub fn tidy(alloc: Global) -> Result<Outcome, NoMemory>
     ensures meets { (is_next_type : List (List ℕ) → List ℕ → Bool) (memory : AnyMemory) (storage : Storage) (state : State) → StandsAt memory storage state
         → IfOk result (λ outcome. Meets is_next_type outcome memory storage (answered state (codes "tidied"))) }
+    ensures short { IfOk result IsShort }
 {
     let text = line(alloc, "tidied")?;
     Ok(Outcome::Ask(Ask::Tidy, Phase::Saying(text)))

@@ -5,6 +5,7 @@ use Rattle.session.proofs.changing.set_root.Goals as goal
 pub returns : goal.returns
 returns c = record {
   meets = λ is_next_type storage state stands started.
-      c.changed.ensures is_next_type storage state (root_turn state c.args.name.now) stands (c.root_change-judged.ensures.judged storage state stands started)
+      c.changed.ensures.meets is_next_type storage state (root_turn state c.args.name.now) stands (c.root_change-judged.ensures.judged storage state stands started)
       (root_line_sound state c.args.name.now stands.stands.sound started);
+  short = c.changed.ensures.short;
 }

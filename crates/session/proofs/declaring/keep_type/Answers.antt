@@ -2,6 +2,9 @@ use Rattle.session.proofs.TypeLines.{type_awaits}
 use Rattle.session.proofs.declaring.keep_type.Goals as goal
 
 pub returns-in-Ok : goal.returns-in-Ok
-returns-in-Ok c = λ is_next_type desc storage state new admits at.
-    type_awaits is_next_type c.args.memory.now c.add_record.new.self storage state desc c.args.id c.args.text c.in_ok-answer.answer admits at new
-    (c.in-Ok.ensures.only desc (rw c.as_slice.ensures new.next)) c.in_ok-answer.ensures
+returns-in-Ok c = record {
+  meets = λ is_next_type desc storage state new admits at.
+      type_awaits is_next_type c.args.memory.now c.add_record.new.self storage state desc c.args.id c.args.text c.in_ok-answer.answer admits at new
+      (c.in-Ok.ensures.only desc (rw c.as_slice.ensures new.next)) c.in_ok-answer.ensures;
+  short = tt;
+}

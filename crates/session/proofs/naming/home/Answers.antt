@@ -1,6 +1,7 @@
 use Rattle.session_model.specs.Answer.{home_turn}
 use Rattle.session_model.proofs.Naming.{home_line_sound}
 use Rattle.session.proofs.Told.{if_meets_said}
+use Rattle.session.proofs.Shortness.{if_said_short}
 use Rattle.session.proofs.naming.home.Goals as goal
 
 pub returns : goal.returns
@@ -8,4 +9,5 @@ returns c = record {
   meets = λ is_next_type storage state stands started.
       if_meets_said is_next_type c.bind_found-said.result c.outcome_of.result c.bind_found-said.new.memory storage (home_turn state c.args.name.now) c.outcome_of.ensures
       (c.bind_found-said.ensures storage state (home_turn state c.args.name.now) stands (c.home_id-judged.ensures.judged storage state stands) (home_line_sound state c.args.name.now stands.stands.sound started));
+  short = if_said_short c.bind_found-said.result c.outcome_of.result c.outcome_of.ensures;
 }

@@ -1,5 +1,5 @@
 use Rattle.session_model.specs.Answer.{store_turn}
-use Rattle.session.specs.Due.{most_bytes}
+use Rattle.session.specs.Limits.{most_bytes}
 use Rattle.session.specs.StoreAsks.{gathered_by}
 use Rattle.std.proofs.Common.{Err}
 use Rattle.session.proofs.StoreLines.{gathered_refusal}

@@ -2,4 +2,4 @@ use Rattle.session.proofs.Asks.{collect_awaits}
 use Rattle.session.proofs.telling.collect.Goals as goal
 
 pub returns : goal.returns
-returns c = record { meets = λ is_next_type memory storage state stands. collect_awaits is_next_type memory storage state stands }
+returns c = record { meets = λ is_next_type memory storage state stands. collect_awaits is_next_type memory storage state stands; short = tt }

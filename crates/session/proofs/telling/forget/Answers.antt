@@ -6,4 +6,5 @@ returns c = record {
   meets = λ is_next_type storage state stands started.
       forget_awaits is_next_type c.args.memory.now c.forget.new.self c.in_ok-forgotten.forgotten.count c.in_ok-forgotten.forgotten.released c.in_ok-text.text storage state stands started
       c.in_ok-forgotten.ensures.kept c.forget.ensures.names c.forget.ensures.once c.in_ok-forgotten.ensures.released c.in_ok-text.ensures c.in_ok-forgotten.ensures.count;
+  short = tt;
 }

@@ -2,4 +2,4 @@ use Rattle.session.proofs.Asks.{tidy_awaits}
 use Rattle.session.proofs.telling.tidy.Goals as goal
 
 pub returns : goal.returns
-returns c = record { meets = λ is_next_type memory storage state stands. tidy_awaits is_next_type c.in_ok-text.text memory storage state c.in_ok-text.ensures stands }
+returns c = record { meets = λ is_next_type memory storage state stands. tidy_awaits is_next_type c.in_ok-text.text memory storage state c.in_ok-text.ensures stands; short = tt }

@@ -1,0 +1,118 @@
+use Rattle.std.proofs.Common.{◌+◌, ◌*◌, length, refl, subst, arith}
+use Rattle.session.specs.Loads.{IsRead}
+use Rattle.session.proofs.Shortness.{few_steps, if_at_most_few, if_short_few}
+use Rattle.session.proofs.commands.carry_out.Goals as goal
+
+pub declare_type-requires : goal.declare_type-requires
+declare_type-requires c = (subst IsRead c.in-DeclareType.is c.requires.read).proper
+
+pub refactor-requires : goal.refactor-requires
+refactor-requires c = (subst IsRead c.in-Refactor.is c.requires.read).one_form
+
+pub returns-in-DeclareType : goal.returns-in-DeclareType
+returns-in-DeclareType c = rw c.in-DeclareType.is (record {
+  meets = λ is_next_type storage state admits at started. c.declare_type.ensures.meets is_next_type storage state admits at;
+  few = λ storage state at. if_short_few c.declare_type.result storage.graph c.declare_type.ensures.short;
+})
+
+pub returns-in-Refactor : goal.returns-in-Refactor
+returns-in-Refactor c = rw c.in-Refactor.is (record {
+  meets = λ is_next_type storage state admits at started. c.refactor.ensures.meets is_next_type storage state at;
+  few = λ storage state at. if_short_few c.refactor.result storage.graph c.refactor.ensures.short;
+})
+
+pub returns-in-New : goal.returns-in-New
+returns-in-New c = rw c.in-New.is (record {
+  meets = λ is_next_type storage state admits at started. c.new.ensures.meets is_next_type storage state at (started refl);
+  few = λ storage state at. if_short_few c.new.result storage.graph c.new.ensures.short;
+})
+
+pub returns-in-SetMember : goal.returns-in-SetMember
+returns-in-SetMember c = rw c.in-SetMember.is (record {
+  meets = λ is_next_type storage state admits at started. c.set_member.ensures.meets is_next_type storage state at (started refl) (subst IsRead c.in-SetMember.is c.requires.read).proper;
+  few = λ storage state at. if_short_few c.set_member.result storage.graph c.set_member.ensures.short;
+})
+
+pub returns-in-AddTo : goal.returns-in-AddTo
+returns-in-AddTo c = rw c.in-AddTo.is (record {
+  meets = λ is_next_type storage state admits at started. c.add_to.ensures.meets is_next_type storage state at (started refl);
+  few = λ storage state at. if_short_few c.add_to.result storage.graph c.add_to.ensures.short;
+})
+
+pub returns-in-CutFrom : goal.returns-in-CutFrom
+returns-in-CutFrom c = rw c.in-CutFrom.is (record {
+  meets = λ is_next_type storage state admits at started. c.cut_from.ensures.meets is_next_type storage state at (started refl);
+  few = λ storage state at. if_short_few c.cut_from.result storage.graph c.cut_from.ensures.short;
+})
+
+pub returns-in-SetRoot : goal.returns-in-SetRoot
+returns-in-SetRoot c = rw c.in-SetRoot.is (record {
+  meets = λ is_next_type storage state admits at started. c.set_root.ensures.meets is_next_type storage state at (started refl);
+  few = λ storage state at. if_short_few c.set_root.result storage.graph c.set_root.ensures.short;
+})
+
+pub returns-in-Store : goal.returns-in-Store
+returns-in-Store c = rw c.in-Store.is (record {
+  meets = λ is_next_type storage state admits at started. c.store.ensures.meets is_next_type storage state at (started refl);
+  few = λ storage state at. if_short_few c.store.result storage.graph c.store.ensures.short;
+})
+
+pub returns-in-StoreAll : goal.returns-in-StoreAll
+returns-in-StoreAll c = rw c.in-StoreAll.is (record {
+  meets = λ is_next_type storage state admits at started. c.store_all.ensures.meets is_next_type storage state at (started refl);
+  few = λ storage state at. if_short_few c.store_all.result storage.graph c.store_all.ensures.short;
+})
+
+pub returns-in-Show : goal.returns-in-Show
+returns-in-Show c = rw c.in-Show.is (record {
+  meets = λ is_next_type storage state admits at started. c.show.ensures.meets is_next_type storage state at (started refl);
+  few = λ storage state at. if_short_few c.show.result storage.graph c.show.ensures.short;
+})
+
+pub returns-in-Home : goal.returns-in-Home
+returns-in-Home c = rw c.in-Home.is (record {
+  meets = λ is_next_type storage state admits at started. c.home.ensures.meets is_next_type storage state at (started refl);
+  few = λ storage state at. if_short_few c.home.result storage.graph c.home.ensures.short;
+})
+
+pub returns-in-Follow : goal.returns-in-Follow
+returns-in-Follow c = rw c.in-Follow.is (record {
+  meets = λ is_next_type storage state admits at started. c.follow.ensures.meets is_next_type storage state at (started refl);
+  few = λ storage state at. if_at_most_few c.follow.result storage.graph (length storage.graph + 3) (omega arith) (c.follow.ensures.few storage state at);
+})
+
+pub returns-in-Pick : goal.returns-in-Pick
+returns-in-Pick c = rw c.in-Pick.is (record {
+  meets = λ is_next_type storage state admits at started. c.pick.ensures.meets is_next_type storage state at (started refl);
+  few = λ storage state at. if_short_few c.pick.result storage.graph c.pick.ensures.short;
+})
+
+pub returns-in-DropName : goal.returns-in-DropName
+returns-in-DropName c = rw c.in-DropName.is (record {
+  meets = λ is_next_type storage state admits at started. c.drop_name.ensures.meets is_next_type storage state at (started refl);
+  few = λ storage state at. if_short_few c.drop_name.result storage.graph c.drop_name.ensures.short;
+})
+
+pub returns-in-Forget : goal.returns-in-Forget
+returns-in-Forget c = rw c.in-Forget.is (record {
+  meets = λ is_next_type storage state admits at started. c.forget.ensures.meets is_next_type storage state at (started refl);
+  few = λ storage state at. if_short_few c.forget.result storage.graph c.forget.ensures.short;
+})
+
+pub returns-in-Collect : goal.returns-in-Collect
+returns-in-Collect c = rw c.in-Collect.is (record {
+  meets = λ is_next_type storage state admits at started. c.collect.ensures.meets is_next_type c.args.memory.now storage state at;
+  few = λ storage state at. few_steps c.collect.result storage.graph c.collect.ensures.short;
+})
+
+pub returns-in-Tidy : goal.returns-in-Tidy
+returns-in-Tidy c = rw c.in-Tidy.is (record {
+  meets = λ is_next_type storage state admits at started. c.tidy.ensures.meets is_next_type c.args.memory.now storage state at;
+  few = λ storage state at. if_short_few c.tidy.result storage.graph c.tidy.ensures.short;
+})
+
+pub returns-in-Export : goal.returns-in-Export
+returns-in-Export c = rw c.in-Export.is (record {
+  meets = λ is_next_type storage state admits at started. c.export.ensures.meets is_next_type storage state at (started refl);
+  few = λ storage state at. if_at_most_few c.export.result storage.graph (4 * length storage.graph + 1) (omega arith) (c.export.ensures.few storage);
+})

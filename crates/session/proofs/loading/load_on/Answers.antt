@@ -1,0 +1,18 @@
+use Rattle.std.proofs.Common.{Option, ap}
+use Rattle.std.specs.Prelude.{is_some}
+use Rattle.graph_model.specs.declared.entity.Entity.{Entity}
+use Rattle.session.proofs.LoadCounts.{if_below, steps_fall}
+use Rattle.session.proofs.LoadTurns.{entity_given, takes_next, walk_goes_on}
+use Rattle.session.proofs.loading.load_on.Goals as goal
+
+pub returns-clause-meets : goal.returns-clause-meets
+returns-clause-meets c = λ is_next_type storage due t. c.take_step.ensures.meets is_next_type storage due
+    (takes_next c.args.memory.now storage due c.args.purpose c.args.loading c.next.new.self c.args.entity c.in_ok-step.step t
+    (c.in_ok-step.ensures.step t.loading_for.state.graph t.loading_for.start (walk_goes_on c.args.memory.now storage due c.args.purpose c.args.loading c.args.entity t)
+    (entity_given c.args.memory.now storage due c.args.purpose c.args.loading c.args.entity t))
+    c.in_ok-step.ensures.broken c.in_ok-step.ensures.mappings)
+
+pub returns-clause-nearer : goal.returns-clause-nearer
+returns-clause-nearer c = λ storage due t. if_below c.take_step.result storage.graph _ _
+    (steps_fall c.args.purpose c.args.loading c.next.new.self c.args.entity c.in_ok-step.step storage.graph c.in_ok-step.ensures.done t.loading_for.walk.fresh (ap (λ (o : Option Entity). is_some o) t.given))
+    (c.take_step.ensures.steps storage.graph)

@@ -1,0 +1,73 @@
+//! The line `export`.
+
+ghost use Rattle.std.specs.Prelude.{◌≡◌, ◌≤◌, ◌<◌, ◌+◌, ◌*◌, ℕ, Bool, List, true, length, IfOk};
+ghost use Rattle.graph_model.specs.Graph.{Graph, lists};
+ghost use Rattle.graph_model.specs.Served.{Storage};
+ghost use Rattle.session_model.specs.Answer.{State, Turn, export_turn};
+ghost use Rattle.session.specs.Stands.{StandsAt};
+ghost use Rattle.session.specs.Due.{Meets};
+ghost use Rattle.session.specs.ExportEnds.{IsRestBehind, steps_behind};
+ghost use Rattle.session.specs.Exports.{IsExportStep, IsTellingFor, TellsEntity};
+ghost use Rattle.session.specs.declared.memory.Memory.{Memory as AnyMemory};
+ghost use Rattle.session.specs.Steps.{export_steps, outcome_steps};
+
+use crate::exporting::{Export, ExportStep, ROOT_ID};
+use crate::memory::Memory;
+use crate::outcome::{Outcome, Phase};
+use graph_model::{Ask, Entity, NoMemory};
+
+/// Whether the graph has the root, once the script has begun.
+fn has_root(memory: &Memory) -> bool
+    ensures { (storage : Storage) (state : State) → StandsAt memory.now storage state → state.started ≡ true → result ≡ lists state.graph 1 }
+{
+    match memory.registry.copy(ROOT_ID) {
+        Some(root) => root.is_saved(),
+        None => false,
+    }
+}
+
+/// What the step of an export comes to.
+fn outcome_of_step(step: ExportStep, export: Export) -> Outcome
+    ensures meets { (is_next_type : List (List ℕ) → List ℕ → Bool) (text : List ℕ) (state : State) (memory : AnyMemory) (storage : Storage) (due : Turn) → IsRestBehind text state memory storage due
+        → IsExportStep state text export step → Meets is_next_type result memory storage due }
+    ensures few { (g : Graph) → outcome_steps result g ≡ steps_behind step export g }
+{
+    match step {
+        ExportStep::Look(id) => Outcome::Ask(Ask::Look(id), Phase::Exporting(export)),
+        ExportStep::Line(bytes) => Outcome::Line(bytes, export),
+        ExportStep::End(bytes) => Outcome::Answer(bytes),
+        ExportStep::Broken { id } => Outcome::Broken(id),
+    }
+}
+
+/// `export`: each entity that the root reaches, as it is stored, as a line of JSON.
+pub fn export(memory: &Memory) -> Result<Outcome, NoMemory>
+    ensures meets { (is_next_type : List (List ℕ) → List ℕ → Bool) (storage : Storage) (state : State) → StandsAt memory.now storage state → state.started ≡ true
+        → IfOk result (λ outcome. Meets is_next_type outcome memory.now storage (export_turn state)) }
+    ensures few { (storage : Storage) → IfOk result (λ outcome. outcome_steps outcome storage.graph ≤ 4 * length storage.graph + 1) }
+{
+    let rooted = has_root(memory);
+    let mut export = Export::start(memory.alloc, rooted);
+    let step = export.next(&memory.types, None)?;
+    Ok(outcome_of_step(step, export))
+}
+
+/// Takes the entity that the export asked for.
+pub fn export_on(memory: &Memory, mut export: Export, entity: Entity) -> Result<Outcome, NoMemory>
+    ensures meets { (is_next_type : List (List ℕ) → List ℕ → Bool) (storage : Storage) (due : Turn) → TellsEntity export entity memory.now storage due
+        → IfOk result (λ outcome. Meets is_next_type outcome memory.now storage due) }
+    ensures nearer { (storage : Storage) (due : Turn) → TellsEntity export entity memory.now storage due → IfOk result (λ outcome. outcome_steps outcome storage.graph < export_steps export storage.graph) }
+{
+    let step = export.next(&memory.types, Some(entity))?;
+    Ok(outcome_of_step(step, export))
+}
+
+/// Goes on behind a line that was printed.
+pub fn export_behind(memory: &Memory, mut export: Export) -> Result<Outcome, NoMemory>
+    ensures meets { (is_next_type : List (List ℕ) → List ℕ → Bool) (storage : Storage) (due : Turn) → IsTellingFor export memory.now storage due
+        → IfOk result (λ outcome. Meets is_next_type outcome memory.now storage due) }
+    ensures nearer { (storage : Storage) (due : Turn) → IsTellingFor export memory.now storage due → IfOk result (λ outcome. outcome_steps outcome storage.graph ≤ export_steps export storage.graph) }
+{
+    let step = export.next(&memory.types, None)?;
+    Ok(outcome_of_step(step, export))
+}

@@ -1,0 +1,134 @@
+//! What a line, and the reply to what was asked, come to.
+
+ghost use Rattle.std.specs.Prelude.{◌≡◌, ◌<◌, ℕ, Bool, List, IfOk};
+ghost use Rattle.graph_model.specs.Graph.{Graph};
+ghost use Rattle.graph_model.specs.Served.{Storage};
+ghost use Rattle.session_model.specs.Answer.{State, Turn};
+ghost use Rattle.session.specs.Dealing.{BeginsLine};
+ghost use Rattle.session.specs.Due.{Meets, Replied, stored_text};
+ghost use Rattle.session.specs.Loads.{GoesOn};
+ghost use Rattle.session.specs.Stands.{Admits, StandsAt};
+ghost use Rattle.session.specs.Steps.{outcome_steps, phase_steps, purpose_steps};
+ghost use Rattle.session.specs.declared.memory.Memory.{Memory as AnyMemory};
+ghost use Rattle.session.specs.declared.outcome.Phase.{Phase as AnyPhase};
+
+use crate::answers::{numbered_line, refusal_line};
+use crate::commands::{carry_out, take_command};
+use crate::export_line::export_on;
+use crate::exporting::Export;
+use crate::loading::{bind_loaded, load_on};
+use crate::memory::Memory;
+use crate::outcome::{Outcome, Phase, Purpose};
+use crate::refusal::Refusal;
+use graph_model::{Bytes, NoMemory, Reply};
+use lazy_refs::Loading;
+use script_text::{LineFault, read_line};
+use std::alloc::Global;
+
+/// What a line of the script comes to.
+pub fn take_line(memory: &mut Memory, text: &Bytes) -> Result<Outcome, NoMemory>
+    requires { (storage : Storage) × (state : State) × StandsAt memory.old storage state }
+    ensures { (is_next_type : List (List ℕ) → List ℕ → Bool) (storage : Storage) (due : Turn) → Admits is_next_type → BeginsLine text.now memory.old storage due
+        → IfOk result (λ outcome. Meets is_next_type outcome memory.new storage due) }
+{
+    match read_line(memory.alloc, text.as_slice()) {
+        Ok(command) => take_command(memory, command),
+        Err(LineFault::BadLine { at: _ }) => {
+            Ok(Outcome::Answer(refusal_line(memory.alloc, Refusal::BadLine)?))
+        }
+        Err(LineFault::NoMemory) => Err(NoMemory),
+    }
+}
+
+/// The answer to a store of so many records.
+fn stored_line(alloc: Global, number: u64, count: u64) -> Result<Bytes, NoMemory>
+    ensures { IfOk result (λ bytes. bytes ≡ stored_text number count) }
+{
+    let line = format!(in alloc; "stored {number} {count}\n")?;
+    Ok(Bytes::new(line.into_bytes()))
+}
+
+fn take_stored(alloc: Global, count: u64, reply: Reply) -> Result<Outcome, NoMemory>
+    requires { (memory : AnyMemory) × (storage : Storage) × (due : Turn) × Replied (AnyPhase.Storing count) reply memory storage due }
+    ensures meets { (is_next_type : List (List ℕ) → List ℕ → Bool) (memory : AnyMemory) (storage : Storage) (due : Turn) → Replied (AnyPhase.Storing count) reply memory storage due
+        → IfOk result (λ outcome. Meets is_next_type outcome memory storage due) }
+    ensures few { (g : Graph) → IfOk result (λ outcome. outcome_steps outcome g < 2) }
+{
+    let Reply::Stored(number) = reply else {
+        unreachable!();
+    };
+    Ok(Outcome::Answer(stored_line(alloc, number, count)?))
+}
+
+fn take_count(alloc: Global, reply: Reply) -> Result<Outcome, NoMemory>
+    requires { (memory : AnyMemory) × (storage : Storage) × (due : Turn) × Replied AnyPhase.Collecting reply memory storage due }
+    ensures meets { (is_next_type : List (List ℕ) → List ℕ → Bool) (memory : AnyMemory) (storage : Storage) (due : Turn) → Replied AnyPhase.Collecting reply memory storage due
+        → IfOk result (λ outcome. Meets is_next_type outcome memory storage due) }
+    ensures few { (g : Graph) → IfOk result (λ outcome. outcome_steps outcome g < 2) }
+{
+    let Reply::Count(count) = reply else {
+        unreachable!();
+    };
+    Ok(Outcome::Answer(numbered_line(alloc, "kept ", count)?))
+}
+
+fn take_loaded(
+    memory: &mut Memory,
+    loading: Loading,
+    purpose: Purpose,
+    reply: Reply,
+) -> Result<Outcome, NoMemory>
+    requires { (storage : Storage) × (due : Turn) × Replied (AnyPhase.Looking loading purpose) reply memory.old storage due }
+    ensures meets { (is_next_type : List (List ℕ) → List ℕ → Bool) (storage : Storage) (due : Turn) → Replied (AnyPhase.Looking loading purpose) reply memory.old storage due
+        → IfOk result (λ outcome. Meets is_next_type outcome memory.new storage due) }
+    ensures nearer { (storage : Storage) (due : Turn) → Replied (AnyPhase.Looking loading purpose) reply memory.old storage due
+        → IfOk result (λ outcome. outcome_steps outcome storage.graph < phase_steps (AnyPhase.Looking loading purpose) storage.graph) }
+{
+    let Reply::Found(entity) = reply else {
+        unreachable!();
+    };
+    load_on(memory, loading, purpose, entity)
+}
+
+/// The objects are in memory, and the storage holds them.
+fn go_on(memory: &mut Memory, purpose: Purpose) -> Result<Outcome, NoMemory>
+    requires { (storage : Storage) × (due : Turn) × GoesOn purpose memory.old storage due }
+    ensures meets { (is_next_type : List (List ℕ) → List ℕ → Bool) (storage : Storage) (due : Turn) → Admits is_next_type → GoesOn purpose memory.old storage due
+        → IfOk result (λ outcome. Meets is_next_type outcome memory.new storage due) }
+    ensures nearer { (storage : Storage) (due : Turn) → GoesOn purpose memory.old storage due → IfOk result (λ outcome. outcome_steps outcome storage.graph < purpose_steps purpose storage.graph) }
+{
+    match purpose {
+        Purpose::Start(command) => carry_out(memory, command),
+        Purpose::Follow { new, id } => bind_loaded(memory, &new, id),
+    }
+}
+
+fn take_exported(memory: &Memory, export: Export, reply: Reply) -> Result<Outcome, NoMemory>
+    requires { (storage : Storage) × (due : Turn) × Replied (AnyPhase.Exporting export) reply memory.now storage due }
+    ensures meets { (is_next_type : List (List ℕ) → List ℕ → Bool) (storage : Storage) (due : Turn) → Replied (AnyPhase.Exporting export) reply memory.now storage due
+        → IfOk result (λ outcome. Meets is_next_type outcome memory.now storage due) }
+    ensures nearer { (storage : Storage) (due : Turn) → Replied (AnyPhase.Exporting export) reply memory.now storage due
+        → IfOk result (λ outcome. outcome_steps outcome storage.graph < phase_steps (AnyPhase.Exporting export) storage.graph) }
+{
+    let Reply::Found(entity) = reply else {
+        unreachable!();
+    };
+    export_on(memory, export, entity)
+}
+
+/// What the reply comes to, in the phase that waits for it.
+pub fn take_reply(memory: &mut Memory, phase: Phase, reply: Reply) -> Result<Outcome, NoMemory>
+    requires { (storage : Storage) × (due : Turn) × Replied phase reply memory.old storage due }
+    ensures meets { (is_next_type : List (List ℕ) → List ℕ → Bool) (storage : Storage) (due : Turn) → Admits is_next_type → Replied phase reply memory.old storage due
+        → IfOk result (λ outcome. Meets is_next_type outcome memory.new storage due) }
+    ensures nearer { (storage : Storage) (due : Turn) → Replied phase reply memory.old storage due → IfOk result (λ outcome. outcome_steps outcome storage.graph < phase_steps phase storage.graph) }
+{
+    match phase {
+        Phase::Saying(text) => Ok(Outcome::Answer(text)),
+        Phase::Storing(count) => take_stored(memory.alloc, count, reply),
+        Phase::Collecting => take_count(memory.alloc, reply),
+        Phase::Looking(loading, purpose) => take_loaded(memory, loading, purpose, reply),
+        Phase::Holding(purpose) => go_on(memory, purpose),
+        Phase::Exporting(export) => take_exported(memory, export, reply),
+    }
+}
