@@ -22,7 +22,7 @@ type_records-push id (first ∷ types) desc =
     ap (λ (l : List (List ℕ)). record_text (id, first) ∷ l)
     (type_records-push (id + 1) types desc ∙ ap (λ n. type_records (id + 1) types ++ record_text (n, desc) ∷ []) same)
 
-recorded-push : (types : List TypeDesc) (desc : TypeDesc) → AllByRecursion IsRecorded types → IsRecorded desc → AllByRecursion IsRecorded (types ++ desc ∷ [])
+pub recorded-push : (types : List TypeDesc) (desc : TypeDesc) → AllByRecursion IsRecorded types → IsRecorded desc → AllByRecursion IsRecorded (types ++ desc ∷ [])
 recorded-push [] desc each last = (last, tt)
 recorded-push (first ∷ types) desc each last = (each.0, recorded-push types desc each.1 last)
 

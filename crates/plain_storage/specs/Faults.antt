@@ -1,4 +1,6 @@
 -- What a fault below is to who opens a disk.
+use Rattle.entity_form.specs.declared.fault.FormFault.{FormFault}
+use Rattle.entity_form.specs.declared.fault.FormFault.TheVariants as forms
 use Rattle.gated_log.specs.declared.opening.LogFault.{LogFault}
 use Rattle.gated_log.specs.declared.opening.LogFault.TheVariants as log
 use Rattle.type_dictionary.specs.declared.fault.RecordFault.{RecordFault}
@@ -16,3 +18,8 @@ log_fault (log.Cut at) = open_.Damaged
 abbrev pub record_fault : RecordFault → OpenFault
 record_fault records.Bad = open_.Damaged
 record_fault records.NoMemory = open_.NoMemory
+
+-- bytes that are no entity are damage
+abbrev pub form_fault : FormFault → OpenFault
+form_fault forms.Bad = open_.Damaged
+form_fault forms.NoMemory = open_.NoMemory

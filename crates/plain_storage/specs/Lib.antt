@@ -1,5 +1,11 @@
 pub mod Faults
-pub mod Logs
-pub mod Types
-pub mod Stores
+pub mod Finishing
 pub mod Held
+pub mod Images
+pub mod Keeping
+pub mod Logs
+pub mod Reading
+pub mod Serving
+pub mod Stores
+pub mod Trees
+pub mod Types

@@ -1,6 +1,8 @@
 //! Why a disk is not opened.
 
+use entity_form::FormFault;
 use gated_log::LogFault;
+use graph_model::NoMemory;
 use std::alloc::AllocError;
 use store_io::DiskFailed;
 use type_dictionary::RecordFault;
@@ -62,5 +64,30 @@ impl From<RecordFault> for OpenFault {
             RecordFault::Bad => OpenFault::Damaged,
             RecordFault::NoMemory => OpenFault::NoMemory,
         }
+    }
+}
+
+impl From<FormFault> for OpenFault {
+    ghost use Rattle.std.specs.Prelude.{◌≡◌};
+    ghost use Rattle.plain_storage.specs.Faults.{form_fault};
+
+    ghost from_gives = { λ e f. f ≡ form_fault e };
+
+    fn from(fault: FormFault) -> Self {
+        match fault {
+            FormFault::Bad => OpenFault::Damaged,
+            FormFault::NoMemory => OpenFault::NoMemory,
+        }
+    }
+}
+
+impl From<NoMemory> for OpenFault {
+    ghost use Rattle.std.specs.Prelude.{◌≡◌};
+    ghost use Rattle.plain_storage.specs.declared.fault.OpenFault.TheVariants.{NoMemory as OutOfMemory};
+
+    ghost from_gives = { λ _ e. e ≡ OutOfMemory };
+
+    fn from(_: NoMemory) -> Self {
+        OpenFault::NoMemory
     }
 }
