@@ -1,10 +1,13 @@
 -- Files that stay as they are, over several calls.
 use Rattle.std.proofs.Common.{ℕ, Bool, List, refl, ◌∙◌}
-use Rattle.store_io.specs.Disk.{OthersStay}
+use Rattle.plain_storage.specs.Images.{OtherFilesStay}
 
-pub others_same : {file : ℕ} {reads : ℕ → List ℕ} {leaves : ℕ → List ℕ → Bool} → OthersStay file reads reads leaves leaves
-others_same = record { reads = λ f other. refl; leaves = λ f other. refl }
+pub others_same : {reads : ℕ → List ℕ} {leaves : ℕ → List ℕ → Bool} → OtherFilesStay reads reads leaves leaves
+others_same = record { reads = λ f not0 not1. refl; leaves = λ f not0 not1. refl }
 
-pub others_then : {file : ℕ} {reads0 reads1 reads2 : ℕ → List ℕ} {leaves0 leaves1 leaves2 : ℕ → List ℕ → Bool}
-    → OthersStay file reads0 reads1 leaves0 leaves1 → OthersStay file reads1 reads2 leaves1 leaves2 → OthersStay file reads0 reads2 leaves0 leaves2
-others_then first second = record { reads = λ f other. second.reads f other ∙ first.reads f other; leaves = λ f other. second.leaves f other ∙ first.leaves f other }
+pub others_then : {reads0 reads1 reads2 : ℕ → List ℕ} {leaves0 leaves1 leaves2 : ℕ → List ℕ → Bool}
+    → OtherFilesStay reads0 reads1 leaves0 leaves1 → OtherFilesStay reads1 reads2 leaves1 leaves2 → OtherFilesStay reads0 reads2 leaves0 leaves2
+others_then first second = record {
+  reads = λ f not0 not1. second.reads f not0 not1 ∙ first.reads f not0 not1;
+  leaves = λ f not0 not1. second.leaves f not0 not1 ∙ first.leaves f not0 not1;
+}

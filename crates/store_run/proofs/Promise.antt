@@ -1,66 +1,63 @@
 -- From lines that are answered to what a run promises.
-use Rattle.std.proofs.Common.{◌≡◌, ◌≢◌, ◌+◌, ◌++◌, [], ℕ, Bool, List, length, take, refl, ap, sym, subst, ◌∙◌, arith, length-append}
-use Rattle.std.proofs.lemmas.List.{append-nil, take_all}
-use Rattle.graph_model.specs.declared.entity.StoreOp.{StoreOp}
-use Rattle.gated_log.specs.Log.{payloads_of, Each}
+use Rattle.std.proofs.Common.{◌≡◌, ◌≢◌, ◌++◌, [], ◌∷◌, ℕ, Bool, List, inl, inr, ⊎_elim, take, drop, refl, ap, sym, subst, ◌∙◌, append_assoc}
+use Rattle.std.proofs.lemmas.List.{append-nil, take-append-drop}
+use Rattle.session_model.specs.Answer.{State, turn}
+use Rattle.session.specs.Limits.{most_bytes}
+use Rattle.session.specs.declared.session.Session.{Session}
+use Rattle.plain_storage.specs.Held.{PlainHeld}
+use Rattle.plain_storage.specs.Images.{AreClean, EachPair}
+use Rattle.plain_storage.specs.Keeping.{Plain}
+use Rattle.store_run.specs.Answer.{answer, answers, opened_on, state_after}
 use Rattle.store_run.specs.Lines.{lines_of}
-use Rattle.store_run.specs.Answer.{state_after, answers, stores_of, opened, answer}
-use Rattle.store_run.specs.Plain.{Stored, nothing, stored_after, payloads_of_stores, AllMayFollow, IsPlain, IsPlainStored}
-use Rattle.store_run.specs.Progress.{IsPartAnswered, IsFinished, HasAcknowledged}
-use Rattle.store_run.specs.Run.{IsRun, IsAnswered, HoldsPrefix, acknowledged, IsFrontOf, EndsLine}
-use Rattle.store_run.specs.Code.{status_of}
+use Rattle.store_run.specs.Progress.{IsFinished, IsPartAnswered}
+use Rattle.store_run.specs.Run.{EndsLine, HoldsPrefix, IsAnswered, IsCleanWith, IsFrontOf, IsRun}
+use Rattle.store_run.specs.Statuses.{status_of}
 use Rattle.store_run.specs.declared.status.Status.TheVariants as status_
 use Rattle.store_run.specs.declared.stop.Stop.{Stop}
 use Rattle.store_run.specs.declared.stop.Stop.TheVariants as stop_
-use Rattle.store_run.proofs.Numbered.{payloads_of_stores-append}
-use Rattle.store_run.proofs.Answered.{stores_of-append}
-use Rattle.store_run.proofs.Opening.{plain_payloads}
-use Rattle.store_run.proofs.Follows.{AllMayFollow-append, AllMayFollow-take, script_follows, stored_more}
-use Rattle.store_run.proofs.Acknowledged.{acknowledged_stores, answers_end, answered_front}
+use Rattle.store_run.proofs.AnswerLines.{turn_ends}
+use Rattle.store_run.proofs.Appends.{answers-append}
+use Rattle.store_run.proofs.PartAnswers.{nothing_answered}
+use Rattle.store_run.proofs.Served.{clean_images, stands_images}
 
--- the payloads of the log and of these stores hold what is held after these
-pub holds_more : (file : List ℕ) (start : Stored) (lines : List (List ℕ)) (m : ℕ) (image : List ℕ) → IsPlainStored file start
-    → IsPlain (payloads_of file ++ payloads_of_stores (start.number + 1) (take m (stores_of (opened start) lines))) image
-    → IsPlainStored image (stored_after start (take m (stores_of (opened start) lines)))
-holds_more file start lines m image held plain =
-    let more = take m (stores_of (opened start) lines) in
-    let follows = AllMayFollow-take m start.next_id (stores_of (opened start) lines) (script_follows file start lines held) in
-    let next : start.next_id ≡ (stored_after nothing held.stores).next_id = ap (λ (s : Stored). s.next_id) held.made in
-    let number : start.number + 1 ≡ 1 + length held.stores = let n : start.number ≡ 0 + length held.stores = ap (λ (s : Stored). s.number) held.made in omega (arith, n) in
-    let payloads : payloads_of file ++ payloads_of_stores (start.number + 1) more ≡ payloads_of_stores 1 (held.stores ++ more) =
-    ap (λ (ps : List (List ℕ)). ps ++ payloads_of_stores (start.number + 1) more) (plain_payloads (payloads_of_stores 1 held.stores) file held.log)
-    ∙ ap (λ n. payloads_of_stores 1 held.stores ++ payloads_of_stores n more) number ∙ sym (payloads_of_stores-append 1 held.stores more) in
+ends-append : (done part : List ℕ) → EndsLine done → EndsLine part → EndsLine (done ++ part)
+ends-append done part first second =
+    ⊎_elim
+    (λ none. subst EndsLine (sym (ap (λ (l : List ℕ). done ++ l) none ∙ append-nil done)) first)
+    (λ some. inr (done ++ some.0, ap (λ (l : List ℕ). done ++ l) some.1 ∙ sym (append_assoc done some.0 (10 ∷ []))))
+    second
+
+-- answers are none, or end with a line feed
+answers_end : (state : State) (lines : List (List ℕ)) → EndsLine (answers state lines)
+answers_end state [] = inl refl
+answers_end state (line ∷ lines) =
+    let made = turn most_bytes state line in
+    ends-append made.text (answers made.state lines) (inr (turn_ends state line)) (answers_end made.state lines)
+
+-- the answers to the first lines and a front of the next are a front of all
+answered_front : (state : State) (lines done rest : List (List ℕ)) (part part_rest : List ℕ) → lines ≡ done ++ rest
+    → answers (state_after state done) (take 1 rest) ≡ part ++ part_rest → IsFrontOf (answers state lines) (answers state done ++ part)
+answered_front state lines done rest part part_rest split is =
+    let behind = state_after state done in
+    let more = answers (state_after behind (take 1 rest)) (drop 1 rest) in
+    let first : answers behind rest ≡ answers behind (take 1 rest) ++ more =
+    ap (answers behind) (sym (take-append-drop 1 rest)) ∙ answers-append behind (take 1 rest) (drop 1 rest) in
     record {
-      stores = held.stores ++ more;
-      follow = AllMayFollow-append 1024 held.stores more held.follow (subst (λ n. AllMayFollow n more) next follows);
-      log = subst (λ (ps : List (List ℕ)). IsPlain ps image) payloads plain;
-      made = stored_more start held.stores more held.made;
+      rest = part_rest ++ more;
+      split = ap (answers state) split ∙ answers-append state done rest
+          ∙ ap (λ (l : List ℕ). answers state done ++ l) (first ∙ ap (λ (l : List ℕ). l ++ more) is ∙ append_assoc part part_rest more)
+          ∙ sym (append_assoc (answers state done) part (part_rest ++ more));
     }
 
--- what each image holds where a part is answered
-part_images : (file : List ℕ) (start : Stored) (script : List ℕ) (n : ℕ) (image : List ℕ) → IsPlainStored file start
-    → HasAcknowledged (payloads_of file) start.number (stores_of (opened start) (lines_of script)) n image
-    → (k : ℕ) → k ≡ n → HoldsPrefix start (answer start script).stores k image
-part_images file start script n image held has k same = record {
-  count = has.m;
-  every_acknowledged = omega (arith, same, has.acknowledged);
-  one_more = omega (arith, same, has.one_more);
-  within = has.within;
-  held = holds_more file start (lines_of script) has.m image held has.is;
-}
-
-at_line : (done part : List ℕ) → EndsLine done → part ≡ [] → EndsLine (done ++ part)
-at_line done part ends none = subst EndsLine (sym (ap (λ (l : List ℕ). done ++ l) none ∙ append-nil done)) ends
-
 -- what is put where a part is answered
-part_put : (text before now left done part : List ℕ) (stop : Stop) → IsFrontOf text (done ++ part) → EndsLine done → now ≡ before ++ (done ++ part) → (stop ≢ stop_.WriteFault → part ≡ [])
+part_put : (text before now left done part : List ℕ) (stop : Stop) → IsFrontOf text (done ++ part) → EndsLine done → now ≡ before ++ (done ++ part) → (stop ≢ stop_.WriteFault → EndsLine part)
     → IsAnswered (status_of stop) text before now left
 part_put text before now left done part stop_.WriteFault front ends put line_end = (done ++ part, put, front)
-part_put text before now left done part stop_.ReadFault front ends put line_end = (done ++ part, put, (front, at_line done part ends (line_end (λ h. cc))))
-part_put text before now left done part stop_.StorageFault front ends put line_end = (done ++ part, put, (front, at_line done part ends (line_end (λ h. cc))))
-part_put text before now left done part stop_.NoMemory front ends put line_end = (done ++ part, put, (front, at_line done part ends (line_end (λ h. cc))))
-part_put text before now left done part stop_.InputTooLong front ends put line_end = (done ++ part, put, (front, at_line done part ends (line_end (λ h. cc))))
-part_put text before now left done part stop_.Full front ends put line_end = (done ++ part, put, (front, at_line done part ends (line_end (λ h. cc))))
+part_put text before now left done part stop_.ReadFault front ends put line_end = (done ++ part, put, (front, ends-append done part ends (line_end (λ h. cc))))
+part_put text before now left done part stop_.StorageFault front ends put line_end = (done ++ part, put, (front, ends-append done part ends (line_end (λ h. cc))))
+part_put text before now left done part stop_.NoMemory front ends put line_end = (done ++ part, put, (front, ends-append done part ends (line_end (λ h. cc))))
+part_put text before now left done part stop_.InputTooLong front ends put line_end = (done ++ part, put, (front, ends-append done part ends (line_end (λ h. cc))))
+part_put text before now left done part stop_.Full front ends put line_end = (done ++ part, put, (front, ends-append done part ends (line_end (λ h. cc))))
 
 not_done : (stop : Stop) → status_of stop ≡ status_.Done → ⊥
 not_done stop_.WriteFault is = cc
@@ -82,45 +79,47 @@ done_not_full : status_.Done ≡ status_.Full → ⊥
 done_not_full is = cc
 
 -- a run that stops before its end
-pub stopped_run : (file : List ℕ) (start : Stored) (script left written0 written : List ℕ) (leaves : List ℕ → Bool) (stop : Stop) → IsPlainStored file start
-    → IsPartAnswered (opened start) (lines_of script) stop written0 written (payloads_of file) leaves → IsRun start (status_of stop) script left written0 written leaves
-stopped_run file start script left written0 written leaves stop held part =
-    let lines = lines_of script in
-    let state = opened start in
-    let said = acknowledged_stores state part.done part.rest part.part part.part_rest written0 written part.next_answer part.short part.answered in
-    let stores : stores_of state lines ≡ stores_of state part.done ++ stores_of (state_after state part.done) part.rest = ap (stores_of state) part.split ∙ stores_of-append state part.done part.rest in
+pub stopped_run : (start : PlainHeld) (script left written0 written : List ℕ) (leaves : ℕ → List ℕ → Bool) (stop : Stop)
+    → IsPartAnswered start script stop written0 written leaves → IsRun start (status_of stop) script left written0 written leaves
+stopped_run start script left written0 written leaves stop part =
+    let state = opened_on start in
+    let is = part.answered in
     record {
-      answered = part_put (answer start script).bytes written0 written left (answers state part.done) part.part stop
-          (answered_front state lines part.done part.rest part.part part.part_rest part.split part.next_answer) (answers_end state part.done) part.answered part.line_end;
-      prefix = λ image is_left. part_images file start script (length (stores_of state part.done)) image held (part.images image is_left) (acknowledged written0 written) said;
+      answered = part_put (answer start script).bytes written0 written left (answers state part.done) is.part stop
+          (answered_front state (lines_of script) part.done part.rest is.part is.part_rest is.lines is.next_answer) (answers_end state part.done) is.put part.line_end;
+      prefix = λ image0 image1 left0 left1. record { done = part.done; rest = part.rest; answered = is; held = part.images image0 image1 left0 left1 };
       all_stored = λ done. absurd (not_done stop done);
-      store_due = λ full.
-          let due = part.due (was_full stop full) in
-          omega (arith, said, due, ap length stores, length-append (stores_of state part.done) (stores_of (state_after state part.done) part.rest));
+      due = λ full. record { done = part.done; rest = part.rest; answered = is; due = part.due (was_full stop full) };
     }
 
 -- a run to its end
-pub finished_run : (file : List ℕ) (start : Stored) (script left written0 written : List ℕ) (payloads : List (List ℕ)) (leaves : List ℕ → Bool) → IsPlainStored file start
-    → IsFinished (opened start) script written0 written (payloads_of file) payloads → Each leaves (IsPlain payloads) → left ≡ [] → IsRun start status_.Done script left written0 written leaves
-finished_run file start script left written0 written payloads leaves held finished each read =
+pub finished_run : (start : PlainHeld) (session : Session) (plain : Plain) (reads : ℕ → List ℕ) (script left written0 written : List ℕ) (leaves : ℕ → List ℕ → Bool)
+    → IsFinished start session plain reads script written0 written → AreClean reads leaves → left ≡ [] → IsRun start status_.Done script left written0 written leaves
+finished_run start session plain reads script left written0 written leaves finished clean read =
     let lines = lines_of script in
-    let state = opened start in
-    let stores = stores_of state lines in
-    let all : take (length stores) stores ≡ stores = take_all (length stores) stores (omega arith) in
-    let put : written ≡ written0 ++ (answers state lines ++ []) = finished.answered ∙ ap (λ (l : List ℕ). written0 ++ l) (sym (append-nil (answers state lines))) in
-    let said : acknowledged written0 written ≡ length stores = acknowledged_stores state lines [] [] [] written0 written refl (λ h. absurd (omega arith)) put in
-    let holds : Each leaves (λ image. IsPlainStored image (stored_after start (take (length stores) stores))) = λ image is_left.
-    holds_more file start lines (length stores) image held
-    (subst (λ (ps : List (List ℕ)). IsPlain ps image) (finished.kept ∙ ap (λ (l : List StoreOp). payloads_of file ++ payloads_of_stores (start.number + 1) l) (sym all)) (each image is_left)) in
+    let state = opened_on start in
+    let holds = stands_images start lines session plain reads leaves finished.stands clean in
     record {
       answered = (finished.answered, read);
-      prefix = λ image is_left. record {
-        count = length stores;
-        every_acknowledged = omega (arith, said);
-        one_more = omega (arith, said);
-        within = omega arith;
-        held = holds image is_left;
+      prefix = λ image0 image1 left0 left1. record {
+        done = lines;
+        rest = [];
+        answered = record {
+          lines = sym (append-nil lines);
+          part = [];
+          part_rest = [];
+          next_answer = refl;
+          short = λ h. h;
+          put = finished.answered ∙ ap (λ (l : List ℕ). written0 ++ l) (sym (append-nil (answers state lines)));
+        };
+        held = inl (holds image0 image1 left0 left1);
       };
-      all_stored = λ done image is_left. subst (λ (l : List StoreOp). IsPlainStored image (stored_after start l)) all (holds image is_left);
-      store_due = λ full. absurd (done_not_full full);
+      all_stored = λ done. holds;
+      due = λ full. absurd (done_not_full full);
     }
+
+-- where nothing was done the images hold the start
+pub untouched_prefix : (start : PlainHeld) (reads : ℕ → List ℕ) (leaves : ℕ → List ℕ → Bool) (script written : List ℕ) → IsCleanWith start reads leaves → EachPair leaves (HoldsPrefix start script written written)
+untouched_prefix start reads leaves script written ready =
+    (stopped_run start script script written written leaves stop_.NoMemory
+    (nothing_answered start script stop_.NoMemory written leaves (clean_images start reads leaves ready.clean ready.stored) (λ full. cc))).prefix

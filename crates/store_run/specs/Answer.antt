@@ -1,32 +1,48 @@
--- What a script is answered, and the stores that it makes. No disk is known here.
-use Rattle.std.specs.Prelude.{ℕ, None, List, [], ◌∷◌, ◌++◌}
+-- What a script is answered over what a disk holds, and what the disk holds behind it. No file is known here.
+use Rattle.std.specs.Prelude.{ℕ, ◌+◌, List, [], ◌∷◌, length}
 use Rattle.graph_model.specs.declared.entity.StoreOp.{StoreOp}
+use Rattle.graph_model.specs.Graph.{after}
+use Rattle.session_model.specs.Answer.{Answer, State, Turn, answer_from, opened, turn}
+use Rattle.session.specs.Limits.{most_bytes}
+use Rattle.plain_storage.specs.Held.{PlainHeld}
+use Rattle.plain_storage.specs.Stores.{last_next_id}
 use Rattle.store_run.specs.Lines.{lines_of}
-use Rattle.store_run.specs.Script.{State, turn}
-use Rattle.store_run.specs.Plain.{Stored}
 
+-- where a script begins over what is held
+abbrev pub opened_on : PlainHeld → State
+opened_on held = opened held.types held.graph held.number held.next_id
+
+-- what a script is answered, and the records and stores that it makes
+abbrev pub answer : PlainHeld → List ℕ → Answer
+answer start script = answer_from most_bytes (opened_on start) (lines_of script)
+
+-- the state behind lines
 abbrev pub state_after : State → List (List ℕ) → State
 state_after state [] = state
-state_after state (line ∷ lines) = state_after (turn state line).state lines
+state_after state (line ∷ lines) = state_after (turn most_bytes state line).state lines
 
--- the answers to these lines, each with a line feed
 abbrev pub answers : State → List (List ℕ) → List ℕ
-answers state [] = []
-answers state (line ∷ lines) = ((turn state line).text ++ 10 ∷ []) ++ answers (turn state line).state lines
+answers state lines = (answer_from most_bytes state lines).bytes
 
--- the stores of these lines, in order
 abbrev pub stores_of : State → List (List ℕ) → List StoreOp
-stores_of state [] = []
-stores_of state (line ∷ lines) = (turn state line).stores ++ stores_of (turn state line).state lines
+stores_of state lines = (answer_from most_bytes state lines).stores
 
--- where a script begins: no name is bound
-abbrev pub opened : Stored → State
-opened start = record { names = λ _. None; next_id = start.next_id; number = start.number }
+abbrev pub records_of : State → List (List ℕ) → List (List ℕ)
+records_of state lines = (answer_from most_bytes state lines).records
 
-pub record Answer : Type 0 where
-  pub bytes : List ℕ
-  pub stores : List StoreOp
+-- what is held after these stores, with the types of a state
+abbrev pub held_with : PlainHeld → State → List StoreOp → PlainHeld
+held_with held state stores = record {
+  types = state.types;
+  graph = after held.graph stores;
+  number = held.number + length stores;
+  next_id = last_next_id held.next_id stores;
+}
 
--- what a script is answered over what is stored at its start
-abbrev pub answer : Stored → List ℕ → Answer
-answer start script = record { bytes = answers (opened start) (lines_of script); stores = stores_of (opened start) (lines_of script) }
+-- what is held behind a line's turn
+abbrev pub held_behind : PlainHeld → Turn → PlainHeld
+held_behind held turn = held_with held turn.state turn.stores
+
+-- what is held behind lines: the types that they leave, and the graph after their stores
+abbrev pub held_after : PlainHeld → List (List ℕ) → PlainHeld
+held_after start lines = held_with start (state_after (opened_on start) lines) (stores_of (opened_on start) lines)

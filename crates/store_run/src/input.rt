@@ -1,16 +1,18 @@
 // The lines of a source are answered.
-ghost use Rattle.std.specs.Prelude.{◌≡◌, ◌<◌, ◌≤◌, ◌+◌, ◌-◌, ◌^◌, ◌++◌, [], ◌∷◌, ℕ, List, IsTrue, length, take, drop, OnOk, IfErr, IfOk, OnErr, IsErrOf};
-ghost use Rattle.store_io.specs.Disk.{Only, OthersStay, Rose};
-ghost use Rattle.gated_log.specs.Log.{payloads_of, length_of};
-ghost use Rattle.store_run.specs.Kept.{IsOpen};
-ghost use Rattle.store_run.specs.Code.{state_of};
-ghost use Rattle.store_run.specs.Lines.{lines_of};
-ghost use Rattle.store_run.specs.Progress.{IsPartAnswered, IsFinished};
+ghost use Rattle.std.specs.Prelude.{◌≡◌, ◌<◌, ◌≤◌, ◌-◌, ◌^◌, ◌++◌, ◌⊎◌, [], ℕ, List, IsTrue, length, take, drop, OnOk, IfErr, IfOk, OnErr, IsErrOf};
+ghost use Rattle.store_io.specs.Disk.{Rose};
+ghost use Rattle.gated_log.specs.Log.{length_of, payloads_of};
+ghost use Rattle.session_model.specs.Answer.{State};
+ghost use Rattle.plain_storage.specs.Held.{PlainHeld};
+ghost use Rattle.plain_storage.specs.Images.{AreClean, OtherFilesStay};
+ghost use Rattle.plain_storage.specs.Keeping.{AreOpen};
+ghost use Rattle.store_run.specs.Serving.{IsAt};
+ghost use Rattle.store_run.specs.Progress.{IsFinished, IsPartAnswered, StandsBehind};
 
 use crate::serve::{serve_end, serve_piece};
-use crate::session::Session;
 use crate::stop::Stop;
-use gated_log::GatedLog;
+use plain_storage::PlainStorage;
+use session::Session;
 use std::alloc::{AllocError, Global};
 use store_io::{Disk, Sink, Source, SourceFailed};
 
@@ -45,20 +47,20 @@ fn read_piece<S: Source>(source: &mut S, buf: &mut [u8], room: usize) -> Result<
 pub fn serve_source<S: Source, K: Sink, D: Disk>(
     alloc: Global,
     session: &mut Session,
-    log: &mut GatedLog,
+    plain: &mut PlainStorage,
     disk: &mut D,
     source: &mut S,
     sink: &mut K,
 ) -> Result<(), Stop>
-    requires open_log { IsTrue D.tells → IsOpen log.old (D.reads disk.old 0) }
-    ensures open_log { IsTrue D.tells → OnOk result (IsOpen log.new (D.reads disk.new 0)) }
-    ensures clean { IsTrue D.tells → Only (D.reads disk.old 0) (D.leaves disk.old 0) → OnOk result (Only (D.reads disk.new 0) (D.leaves disk.new 0)) }
-    ensures others { IsTrue D.tells → OthersStay 0 (D.reads disk.old) (D.reads disk.new) (D.leaves disk.old) (D.leaves disk.new) }
+    requires at { (now : State) × IsAt session.old plain.old now }
+    requires logs { IsTrue D.tells → AreOpen plain.old (D.reads disk.old) }
+    ensures clean { IsTrue D.tells → AreClean (D.reads disk.old) (D.leaves disk.old) → OnOk result (AreClean (D.reads disk.new) (D.leaves disk.new)) }
+    ensures others { IsTrue D.tells → OtherFilesStay (D.reads disk.old) (D.reads disk.new) (D.leaves disk.old) (D.leaves disk.new) }
     ensures at_end { IsTrue S.tells → OnOk result (S.left source.new ≡ []) }
-    ensures finished { IsTrue S.tells → IsTrue K.tells → IsTrue D.tells → OnOk result (IsFinished (state_of session.old log.old.count) (S.left source.old)
-        (K.written sink.old) (K.written sink.new) (payloads_of (D.reads disk.old 0)) (payloads_of (D.reads disk.new 0))) }
-    ensures stop { IsTrue S.tells → IsTrue K.tells → IsTrue D.tells → Only (D.reads disk.old 0) (D.leaves disk.old 0) → IfErr result (λ e. IsPartAnswered (state_of session.old log.old.count) (lines_of (S.left source.old)) e
-        (K.written sink.old) (K.written sink.new) (payloads_of (D.reads disk.old 0)) (D.leaves disk.new 0)) }
+    ensures finished { IsTrue S.tells → IsTrue K.tells → IsTrue D.tells → (start : PlainHeld) → StandsBehind start [] session.old plain.old (D.reads disk.old)
+        → OnOk result (IsFinished start session.new plain.new (D.reads disk.new) (S.left source.old) (K.written sink.old) (K.written sink.new)) }
+    ensures stop { IsTrue S.tells → IsTrue K.tells → IsTrue D.tells → AreClean (D.reads disk.old) (D.leaves disk.old) → (start : PlainHeld) → StandsBehind start [] session.old plain.old (D.reads disk.old)
+        → IfErr result (λ e. IsPartAnswered start (S.left source.old) e (K.written sink.old) (K.written sink.new) (D.leaves disk.new)) }
 
     ensures source_faults { S.faults source.old ≤ S.faults source.new }
     ensures sink_faults { K.faults sink.old ≤ K.faults sink.new }
@@ -68,10 +70,11 @@ pub fn serve_source<S: Source, K: Sink, D: Disk>(
     ensures storage_fault { IsErrOf result Stop.StorageFault → Rose (D.faults disk.old) (D.faults disk.new) }
     ensures too_long { IsTrue S.tells → IsErrOf result Stop.InputTooLong → (268435456 ≤ length (S.left source.old)) × (S.left source.new ≡ drop 268435456 (S.left source.old)) }
     ensures not_too_long { IsTrue S.tells → OnOk result (length (S.left source.old) < 268435456) }
-    ensures full { IsTrue D.tells → IsErrOf result Stop.Full → 2 ^ 40 - 64 < length_of (payloads_of (D.reads disk.new 0)) }
+    ensures full { IsTrue D.tells → IsErrOf result Stop.Full
+        → (2 ^ 40 - 64 < length_of (payloads_of (D.reads disk.new 0))) ⊎ (2 ^ 40 - 64 < length_of (payloads_of (D.reads disk.new 1))) }
 {
     let mut buf = buffer(alloc)?;
-    serve_pieces(alloc, session, log, disk, source, sink, &mut buf)?;
+    serve_pieces(alloc, session, plain, disk, source, sink, &mut buf)?;
     Ok(())
 }
 
@@ -79,22 +82,22 @@ pub fn serve_source<S: Source, K: Sink, D: Disk>(
 fn serve_pieces<S: Source, K: Sink, D: Disk>(
     alloc: Global,
     session: &mut Session,
-    log: &mut GatedLog,
+    plain: &mut PlainStorage,
     disk: &mut D,
     source: &mut S,
     sink: &mut K,
     buf: &mut [u8],
 ) -> Result<(), Stop>
     requires some { 0 < length buf.old }
-    requires open_log { IsTrue D.tells → IsOpen log.old (D.reads disk.old 0) }
-    ensures open_log { IsTrue D.tells → OnOk result (IsOpen log.new (D.reads disk.new 0)) }
-    ensures clean { IsTrue D.tells → Only (D.reads disk.old 0) (D.leaves disk.old 0) → OnOk result (Only (D.reads disk.new 0) (D.leaves disk.new 0)) }
-    ensures others { IsTrue D.tells → OthersStay 0 (D.reads disk.old) (D.reads disk.new) (D.leaves disk.old) (D.leaves disk.new) }
+    requires at { (now : State) × IsAt session.old plain.old now }
+    requires logs { IsTrue D.tells → AreOpen plain.old (D.reads disk.old) }
+    ensures clean { IsTrue D.tells → AreClean (D.reads disk.old) (D.leaves disk.old) → OnOk result (AreClean (D.reads disk.new) (D.leaves disk.new)) }
+    ensures others { IsTrue D.tells → OtherFilesStay (D.reads disk.old) (D.reads disk.new) (D.leaves disk.old) (D.leaves disk.new) }
     ensures at_end { IsTrue S.tells → OnOk result (S.left source.new ≡ []) }
-    ensures finished { IsTrue S.tells → IsTrue K.tells → IsTrue D.tells → OnOk result (IsFinished (state_of session.old log.old.count) (S.left source.old)
-        (K.written sink.old) (K.written sink.new) (payloads_of (D.reads disk.old 0)) (payloads_of (D.reads disk.new 0))) }
-    ensures stop { IsTrue S.tells → IsTrue K.tells → IsTrue D.tells → Only (D.reads disk.old 0) (D.leaves disk.old 0) → IfErr result (λ e. IsPartAnswered (state_of session.old log.old.count) (lines_of (S.left source.old)) e
-        (K.written sink.old) (K.written sink.new) (payloads_of (D.reads disk.old 0)) (D.leaves disk.new 0)) }
+    ensures finished { IsTrue S.tells → IsTrue K.tells → IsTrue D.tells → (start : PlainHeld) → StandsBehind start [] session.old plain.old (D.reads disk.old)
+        → OnOk result (IsFinished start session.new plain.new (D.reads disk.new) (S.left source.old) (K.written sink.old) (K.written sink.new)) }
+    ensures stop { IsTrue S.tells → IsTrue K.tells → IsTrue D.tells → AreClean (D.reads disk.old) (D.leaves disk.old) → (start : PlainHeld) → StandsBehind start [] session.old plain.old (D.reads disk.old)
+        → IfErr result (λ e. IsPartAnswered start (S.left source.old) e (K.written sink.old) (K.written sink.new) (D.leaves disk.new)) }
 
     ensures source_faults { S.faults source.old ≤ S.faults source.new }
     ensures sink_faults { K.faults sink.old ≤ K.faults sink.new }
@@ -104,17 +107,18 @@ fn serve_pieces<S: Source, K: Sink, D: Disk>(
     ensures storage_fault { IsErrOf result Stop.StorageFault → Rose (D.faults disk.old) (D.faults disk.new) }
     ensures too_long { IsTrue S.tells → IsErrOf result Stop.InputTooLong → (268435456 ≤ length (S.left source.old)) × (S.left source.new ≡ drop 268435456 (S.left source.old)) }
     ensures not_too_long { IsTrue S.tells → OnOk result (length (S.left source.old) < 268435456) }
-    ensures full { IsTrue D.tells → IsErrOf result Stop.Full → 2 ^ 40 - 64 < length_of (payloads_of (D.reads disk.new 0)) }
+    ensures full { IsTrue D.tells → IsErrOf result Stop.Full
+        → (2 ^ 40 - 64 < length_of (payloads_of (D.reads disk.new 0))) ⊎ (2 ^ 40 - 64 < length_of (payloads_of (D.reads disk.new 1))) }
 {
     let mut unended = Vec::new(alloc);
     let mut taken = 0;
     while taken < LIMIT {
         let n = read_piece(source, buf, LIMIT - taken)?;
         if n == 0 {
-            serve_end(alloc, session, log, disk, sink, &unended)?;
+            serve_end(alloc, session, plain, disk, sink, &unended)?;
             return Ok(());
         }
-        serve_piece(alloc, session, log, disk, sink, &mut unended, &buf[..n])?;
+        serve_piece(alloc, session, plain, disk, sink, &mut unended, &buf[..n])?;
         taken += n;
     }
     Err(Stop::InputTooLong)

@@ -1,18 +1,14 @@
-//! A script of lines, answered from one log of whole stores.
+//! A script of lines, answered over two logs of one disk.
 #![tactic(auto)]
 
-pub mod command;
 pub mod input;
-pub mod keep;
-pub mod laws;
-pub mod names;
-pub mod open;
+mod laws;
+pub mod line;
 pub mod run;
 pub mod serve;
-pub mod session;
 pub mod status;
 pub mod stop;
-pub mod stored;
 pub mod top;
-pub mod turn;
 pub mod words;
+
+pub use laws::answers_are_lines;

@@ -1,36 +1,25 @@
--- A script is served over a log that is open.
-use Rattle.std.proofs.Common.{subst, sym}
-use Rattle.gated_log.specs.Log.{payloads_of}
-use Rattle.store_run.specs.Lines.{lines_of}
-use Rattle.store_run.specs.Answer.{opened}
-use Rattle.store_run.specs.Progress.{IsFinished, IsPartAnswered}
-use Rattle.store_run.specs.Run.{IsRun}
-use Rattle.store_run.proofs.TurnCuts.{kept_plain}
-use Rattle.store_run.proofs.Bound.{opened_state}
-use Rattle.store_run.proofs.Promise.{stopped_run, finished_run}
+-- A script is served over a storage that was opened.
+use Rattle.plain_storage.specs.Keeping.{held_in}
+use Rattle.store_run.specs.declared.stop.Stop.TheVariants as stop_
+use Rattle.store_run.proofs.Opened.{first_stands}
+use Rattle.store_run.proofs.PartAnswers.{nothing_answered}
+use Rattle.store_run.proofs.Promise.{stopped_run}
+use Rattle.store_run.proofs.Served.{clean_images}
 use Rattle.store_run.proofs.run.serve_opened.Goals as goal
 
 pub returns-in-Ok-clause-run : goal.returns-in-Ok-clause-run
-returns-in-Ok-clause-run g c takes answers told clean file start held same next number =
-    let script = g.S.Source.left c.args.source.now in
-    let written0 = g.K.Sink.written c.args.sink.now in
-    let written = g.K.Sink.written c.serve_source.new.sink in
-    let new = g.D.Disk.reads c.serve_source.new.disk 0 in
-    let leaves = g.D.Disk.leaves c.serve_source.new.disk 0 in
-    let begun = opened_state start c.new.result c.args.next_id c.args.log.count c.new.ensures.empty next number in
-    let finished = subst (λ ps. IsFinished (opened start) script written0 written ps (payloads_of new)) same
-    (subst (λ s. IsFinished s script written0 written (payloads_of (g.D.Disk.reads c.args.disk.now 0)) (payloads_of new)) begun (c.in-Ok.ensures.finished takes answers told)) in
-    finished_run file start script (g.S.Source.left c.serve_source.new.source) written0 written (payloads_of new) leaves held finished
-    (kept_plain c.serve_source.new.log new leaves (c.in-Ok.ensures.open_log told) (c.in-Ok.ensures.clean told clean)) (c.in-Ok.ensures.at_end takes)
+returns-in-Ok-clause-run g c takes answers told clean =
+    let plain = c.args.plain.now in
+    let types = c.args.types in
+    c.serve_script.ensures.run takes answers told clean (held_in plain types) (first_stands plain types c.in-Ok.session (g.D.Disk.reads c.args.disk.now) c.in-Ok.ensures.at (c.requires.keeps told))
 
-pub returns-clause-run : goal.returns-clause-run
-returns-clause-run g c takes answers told clean file start held same next number =
+pub returns-in-Err-clause-run : goal.returns-in-Err-clause-run
+returns-in-Err-clause-run g c takes answers told clean =
+    let start = held_in c.args.plain.now c.args.types in
     let script = g.S.Source.left c.args.source.now in
-    let written0 = g.K.Sink.written c.args.sink.now in
-    let written = g.K.Sink.written c.serve_source.new.sink in
-    let leaves = g.D.Disk.leaves c.serve_source.new.disk 0 in
-    let begun = opened_state start c.new.result c.args.next_id c.args.log.count c.new.ensures.empty next number in
-    let part = subst (λ ps. IsPartAnswered (opened start) (lines_of script) c.in-Err.stop written0 written ps leaves) same
-    (subst (λ s. IsPartAnswered s (lines_of script) c.in-Err.stop written0 written (payloads_of (g.D.Disk.reads c.args.disk.now 0)) leaves) begun (c.in-Err.ensures.stop takes answers told clean)) in
-    subst (λ status. IsRun start status script (g.S.Source.left c.serve_source.new.source) written0 written leaves) (sym c.status_of.ensures)
-    (stopped_run file start script (g.S.Source.left c.serve_source.new.source) written0 written leaves c.in-Err.stop held part)
+    let written = g.K.Sink.written c.args.sink.now in
+    let reads = g.D.Disk.reads c.args.disk.now in
+    let leaves = g.D.Disk.leaves c.args.disk.now in
+    let keeps = c.requires.keeps told in
+    stopped_run start script script written written leaves stop_.NoMemory
+    (nothing_answered start script stop_.NoMemory written leaves (clean_images start reads leaves clean keeps.stored) (λ full. cc))

@@ -1,5 +1,10 @@
 -- A run on the only disk of the list.
-use Rattle.store_run.proofs.OneDisk.{of_changed}
+use Rattle.plain_storage.specs.Images.{EachPair}
+use Rattle.store_run.specs.Answer.{answer}
+use Rattle.store_run.specs.Run.{HoldsAcknowledged, HoldsPrefix, IsCleanWith, acknowledged}
+use Rattle.store_run.proofs.KeptStores.{prefix_acknowledged}
+use Rattle.store_run.proofs.OneDisk.{of_changed, of_same}
+use Rattle.store_run.proofs.Promise.{untouched_prefix}
 use Rattle.store_run.proofs.top.run_alone.Goals as goal
 
 pub returns-clause-fault_is_damaged : goal.returns-clause-fault_is_damaged
@@ -13,3 +18,29 @@ returns-clause-fault_stays g c told = of_changed c.args.disks.now.items c.index_
 
 pub returns-clause-refused : goal.returns-clause-refused
 returns-clause-refused g c takes told words start = of_changed c.args.disks.now.items c.index_mut.result.now c.run_disk.new.disk _ c.index_mut.ensures.value (c.run_disk.ensures.refused takes told start)
+
+pub returns-clause-crash_prefix : goal.returns-clause-crash_prefix
+returns-clause-crash_prefix g c takes answers told start =
+    let script = g.S.Source.left c.args.source.now in
+    let written0 = g.K.Sink.written c.args.sink.now in
+    let written = g.K.Sink.written c.run_disk.new.sink in
+    of_changed c.args.disks.now.items c.index_mut.result.now c.run_disk.new.disk
+    (λ old new. IsCleanWith start (g.D.Disk.reads old) (g.D.Disk.leaves old) → EachPair (g.D.Disk.leaves new) (HoldsPrefix start script written0 written)) c.index_mut.ensures.value
+    (λ ready. (c.run_disk.ensures.run takes answers told start ready).prefix)
+
+pub returns-then-not-are_run_words-clause-crash_prefix : goal.returns-then-not-are_run_words-clause-crash_prefix
+returns-then-not-are_run_words-clause-crash_prefix g c takes answers told start =
+    let script = g.S.Source.left c.args.source.now in
+    let written = g.K.Sink.written c.args.sink.now in
+    of_same c.args.disks.now.items
+    (λ old new. IsCleanWith start (g.D.Disk.reads old) (g.D.Disk.leaves old) → EachPair (g.D.Disk.leaves new) (HoldsPrefix start script written written))
+    (λ disk ready. untouched_prefix start (g.D.Disk.reads disk) (g.D.Disk.leaves disk) script written ready)
+
+pub returns-then-not-are_run_words-clause-acknowledged : goal.returns-then-not-are_run_words-clause-acknowledged
+returns-then-not-are_run_words-clause-acknowledged g c takes answers told start =
+    let script = g.S.Source.left c.args.source.now in
+    let written = g.K.Sink.written c.args.sink.now in
+    of_same c.args.disks.now.items
+    (λ old new. IsCleanWith start (g.D.Disk.reads old) (g.D.Disk.leaves old) → EachPair (g.D.Disk.leaves new) (HoldsAcknowledged start (answer start script).stores (acknowledged written written)))
+    (λ disk ready image0 image1 left0 left1.
+    prefix_acknowledged start script written written image0 image1 (untouched_prefix start (g.D.Disk.reads disk) (g.D.Disk.leaves disk) script written ready image0 image1 left0 left1))

@@ -1,0 +1,25 @@
+-- Why a run ends, where a call has failed.
+use Rattle.std.proofs.Common.{◌≡◌, ◌≢◌, ℕ, Result, Ok, Err, IfErr, IsErrAnd, IsErrOf, refl, ap, sym, subst}
+use Rattle.graph_model.specs.declared.ask.StorageFault.{StorageFault}
+use Rattle.graph_model.specs.declared.ask.StorageFault.TheVariants as storage
+use Rattle.store_run.specs.Faults.{storage_stop}
+use Rattle.store_run.specs.declared.stop.Stop.{Stop}
+use Rattle.store_run.specs.declared.stop.Stop.TheVariants as stop
+
+-- what holds of the stop that is answered
+pub if_stopped : {T : Type 0} (r : Result T Stop) (is : Stop) (P : Stop → Type 0) → IsErrAnd r (λ e. e ≡ is) → P is → IfErr r P
+if_stopped (Ok x) is P answered holds = tt
+if_stopped (Err e) is P answered holds = subst P (sym answered) holds
+
+-- a run is full where its storage is
+pub storage_full : (fault : StorageFault) (P : Type 0) → storage_stop fault ≡ stop.Full → ((number : ℕ) → fault ≡ storage.Full number → P) → P
+storage_full storage.NoMemory P is then = absurd cc
+storage_full storage.Fault P is then = absurd cc
+storage_full (storage.Full number) P is then = then number refl
+storage_full (storage.Broken id) P is then = absurd cc
+
+pub failed_so : {T E : Type 0} (e f : E) → e ≡ f → IsErrOf {T = T} {E = E} (Err e) f
+failed_so e f is = ap (λ (x : _). Err x) is
+
+pub memory_is_not_full : stop.NoMemory ≢ stop.Full
+memory_is_not_full is = cc

@@ -1,0 +1,61 @@
+-- What comes next is carried out, or the run ends within the line.
+use Rattle.std.proofs.Common.{◌≡◌, ◌++◌, List, ℕ, take, refl, subst}
+use Rattle.graph_model.specs.declared.ask.StorageFault.TheVariants as storage
+use Rattle.session.specs.Dealing.{Gives}
+use Rattle.session.specs.declared.session.Turn.{Turn as Step}
+use Rattle.plain_storage.specs.Keeping.{storage_of, types_with}
+use Rattle.store_run.specs.Faults.{storage_stop}
+use Rattle.store_run.specs.Serving.{IsTurnCut}
+use Rattle.store_run.specs.Within.{IsWithin, any_record}
+use Rattle.store_run.specs.declared.stop.Stop.{Stop}
+use Rattle.store_run.specs.declared.stop.Stop.TheVariants as stop
+use Rattle.store_run.proofs.CutWithin.{ask_cut, print_cut}
+use Rattle.store_run.proofs.StepsWithin.{printed_within, served_within}
+use Rattle.store_run.proofs.Stops.{failed_so, if_stopped, storage_full}
+use Rattle.store_run.proofs.line.carry_on.Goals as goal
+
+pub returns-in_ok-reply-in-Ask-clause-carried : goal.returns-in_ok-reply-in-Ask-clause-carried
+returns-in_ok-reply-in-Ask-clause-carried g c session kept line tells within =
+    let now = g.D.Disk.reads c.args.disk.now in
+    let written = g.K.Sink.written c.args.sink.now in
+    let asked = subst (λ (s : Step). IsWithin g.K.Sink.tells kept line (Gives any_record s session) c.args.plain.now now written) c.in-Ask.is within in
+    served_within g.K.Sink.tells kept line c.in-Ask.ask session c.args.plain.now c.serve.new.self now (g.D.Disk.reads c.serve.new.disk) written c.in_ok-reply-in-Ask.reply asked
+    c.in_ok-reply-in-Ask.ensures.served (λ k. c.in_ok-reply-in-Ask.ensures.keeps (tells k))
+
+pub returns-in_ok-reply-in-Ask-clause-steady : goal.returns-in_ok-reply-in-Ask-clause-steady
+returns-in_ok-reply-in-Ask-clause-steady g c session types due gives =
+    let asks = subst (λ (s : Step). Gives any_record s session (storage_of c.args.plain.now types) due) c.in-Ask.is gives in
+    asks.steady c.in_ok-reply-in-Ask.reply (storage_of c.serve.new.self (types_with c.in-Ask.ask types)) (c.in_ok-reply-in-Ask.ensures.served types)
+
+pub returns-in_ok-put-in-Print-clause-carried : goal.returns-in_ok-put-in-Print-clause-carried
+returns-in_ok-put-in-Print-clause-carried g c session kept line tells within =
+    let now = g.D.Disk.reads c.args.disk.now in
+    let written = g.K.Sink.written c.args.sink.now in
+    let same : c.as_slice.result.now ≡ c.in-Print.line = cc in
+    let printed = subst (λ (s : Step). IsWithin g.K.Sink.tells kept line (Gives any_record s session) c.args.plain.now now written) c.in-Print.is within in
+    printed_within g.K.Sink.tells kept line c.in-Print.line session c.args.plain.now now written (g.K.Sink.written c.put.new.self) printed
+    (λ t. subst (λ (b : List ℕ). g.K.Sink.written c.put.new.self ≡ written ++ b) same (c.in_ok-put-in-Print.ensures.ok t))
+
+pub returns-in_err-reply-in-Ask-clause-stop : goal.returns-in_err-reply-in-Ask-clause-stop
+returns-in_err-reply-in-Ask-clause-stop g c answers tells clean session kept line k within =
+    let now = g.D.Disk.reads c.args.disk.now in
+    let written = g.K.Sink.written c.args.sink.now in
+    let fault = c.in_err-reply-in-Ask.field-0.0 in
+    let asked = subst (λ (s : Step). IsWithin g.K.Sink.tells kept line (Gives any_record s session) c.args.plain.now now written) c.in-Ask.is within in
+    if_stopped c.from_residual.result (storage_stop fault) (λ (e : Stop). IsTurnCut line.turn line.held e line.written written (g.D.Disk.leaves c.serve.new.disk)) c.from_residual.ensures.1
+    (ask_cut g.K.Sink.tells kept line c.in-Ask.ask session c.args.plain.now now written (g.D.Disk.leaves c.serve.new.disk) (storage_stop fault) answers k
+    (λ full. storage_full fault _ full (λ number is. c.in_err-reply-in-Ask.ensures.due number (failed_so fault (storage.Full number) is)))
+    (c.in_err-reply-in-Ask.ensures.stop tells clean) asked)
+
+pub returns-in_err-put-in-Print-clause-stop : goal.returns-in_err-put-in-Print-clause-stop
+returns-in_err-put-in-Print-clause-stop g c answers tells clean session kept line k within =
+    let now = g.D.Disk.reads c.args.disk.now in
+    let written = g.K.Sink.written c.args.sink.now in
+    let failed = c.in_err-put-in-Print.ensures.err answers in
+    let same : c.as_slice.result.now ≡ c.in-Print.line = cc in
+    let printed = subst (λ (s : Step). IsWithin g.K.Sink.tells kept line (Gives any_record s session) c.args.plain.now now written) c.in-Print.is within in
+    if_stopped c.from_residual-in_err-put-in-Print.result stop.WriteFault
+    (λ (e : Stop). IsTurnCut line.turn line.held e line.written (g.K.Sink.written c.put.new.self) (g.D.Disk.leaves c.args.disk.now)) c.from_residual-in_err-put-in-Print.ensures.1
+    (print_cut g.K.Sink.tells kept line c.in-Print.line session c.args.plain.now now written (g.K.Sink.written c.put.new.self)
+    (g.D.Disk.leaves c.args.disk.now) stop.WriteFault failed.0 answers k clean refl
+    (subst (λ (b : List ℕ). g.K.Sink.written c.put.new.self ≡ written ++ take failed.0 b) same failed.2) printed)
