@@ -4,4 +4,8 @@
 #[cfg(test)]
 mod letters;
 #[cfg(test)]
+mod runs;
+#[cfg(test)]
+mod scripts;
+#[cfg(test)]
 mod tests;

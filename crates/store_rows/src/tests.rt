@@ -1,79 +1,23 @@
-ghost use Rattle.std.specs.Prelude.{◌≡◌, length, OnOk, IfOk};
+//! What a run does beside its answers: the bytes that it leaves, stops, devices that fail, and logs of others.
+
+ghost use Rattle.std.specs.Prelude.{◌≡◌, length, IfOk};
 
 use crate::letters::Letters;
-use std::alloc::{AllocError, AllocFailed, Global};
-use store_io::{Disk, DiskFailed, MemDisk, MemSink, MemSource, Pick};
+use crate::runs::{Fail, alone, fresh, is_answered, run, words};
+use std::alloc::Global;
+use store_io::{Disk, MemDisk, MemSink, MemSource, Pick};
 use store_run::status::{Cause, Status};
 use store_run::top::run_alone;
 
-/// The first row's script.
-const SCRIPT: &[u8] = b"new a Node\nnew b Node\nstore a\nshow a\nstore b\n";
+/// A script of two stores.
+const SCRIPT: &[u8] = b"type Node int:v\nnew a Node\nnew b Node\nstore a\nshow a\nstore b\n";
 
 /// Its answers.
 const ANSWERS: &[u8] =
-    b"new 1024\nnew 1025\nstored 1 1\n{\"id\":1024,\"m\":{\"v\":0},\"type\":\"Node\"}\nstored 2 1\n";
-
-/// Why a test could not be made.
-#[derive(Debug, Drop)]
-struct Fail;
-
-impl From<AllocError> for Fail {
-    fn from(_: AllocError) -> Self {
-        Fail
-    }
-}
-
-impl<T: Drop> From<AllocFailed<T>> for Fail {
-    fn from(_: AllocFailed<T>) -> Self {
-        Fail
-    }
-}
-
-impl From<DiskFailed> for Fail {
-    fn from(_: DiskFailed) -> Self {
-        Fail
-    }
-}
-
-fn words(alloc: Global, texts: &[&str]) -> Result<Vec<String>, Fail> {
-    let mut words = Vec::new(alloc);
-    for text in texts {
-        words.push(format!(in alloc; "{text}")?)?;
-    }
-    Ok(words)
-}
-
-fn alone(alloc: Global, disk: MemDisk) -> Result<Vec<MemDisk>, Fail>
-    ensures { IfOk result (λ disks. length disks.items ≡ 1) }
-{
-    let mut disks = Vec::new(alloc);
-    disks.push(disk)?;
-    Ok(disks)
-}
-
-fn fresh(alloc: Global, fails: Vec<u64>, stop_after: Option<u64>) -> Result<Vec<MemDisk>, Fail>
-    ensures { IfOk result (λ disks. length disks.items ≡ 1) }
-{
-    alone(alloc, MemDisk::new(alloc, fails, stop_after))
-}
-
-/// Runs a script, read in pieces of seven bytes.
-fn run(
-    alloc: Global,
-    script: &[u8],
-    sink: &mut MemSink,
-    disks: &mut Vec<MemDisk>,
-) -> Result<Status, Fail>
-    requires { length disks.old.items ≡ 1 }
-    ensures { length disks.new.items ≡ length disks.old.items }
-{
-    let words = words(alloc, &["run", "d", "1"])?;
-    let mut source = MemSource::new(Vec::from_slice(alloc, script)?, 7, Vec::new(alloc));
-    Ok(run_alone(alloc, &words, &mut source, sink, disks))
-}
+    b"type 16\nnew 1024\nnew 1025\nstored 1 1\n{\"id\":1024,\"m\":{\"v\":0},\"type\":\"Node\"}\nstored 2 1\n";
 
 #[test]
-fn rows(rt: HostRuntime) -> Result<(), Fail> {
+fn lengths(rt: HostRuntime) -> Result<(), Fail> {
     let alloc = rt.alloc();
     let mut disks = fresh(alloc, Vec::new(alloc), None)?;
     for (script, answers) in [
@@ -84,74 +28,91 @@ fn rows(rt: HostRuntime) -> Result<(), Fail> {
             b"refused no-name\nrefused bad-line\n".as_slice(),
         ),
     ] {
-        let mut sink = MemSink::new(alloc, Vec::new(alloc));
-        let status = run(alloc, script, &mut sink, &mut disks)?;
-        assert_eq!(rt; status, Status::Done);
-        assert_eq!(rt; sink.written().as_slice(), answers);
+        assert!(rt; is_answered(alloc, &mut disks, script, answers)?);
         assert_eq!(rt; disks[0].len(0)?, 131);
-        assert_eq!(rt; disks[0].len(1)?, 0);
+        assert_eq!(rt; disks[0].len(1)?, 28);
+        assert_eq!(rt; disks[0].len(2)?, 0);
     }
     Ok(())
 }
 
-#[test]
-fn refusals(rt: HostRuntime) -> Result<(), Fail> {
-    let alloc = rt.alloc();
-    for (script, answers) in [
-        (
-            b"show a\nnew a Node\nnew a Node\nnew root Node\nnew b Point".as_slice(),
-            b"refused no-name\nnew 1024\nrefused name-taken\nrefused reserved\nrefused bad-line\n".as_slice(),
-        ),
-        (
-            b"new null Node\nstore  a\nnew A Node\nnew a_1 Node \nstore root\n".as_slice(),
-            b"refused bad-line\nrefused bad-line\nrefused bad-line\nrefused bad-line\nrefused no-name\n".as_slice(),
-        ),
-        (b"".as_slice(), b"".as_slice()),
-    ] {
-        let mut disks = fresh(alloc, Vec::new(alloc), None)?;
-        let mut sink = MemSink::new(alloc, Vec::new(alloc));
-        let status = run(alloc, script, &mut sink, &mut disks)?;
-        assert_eq!(rt; status, Status::Done);
-        assert_eq!(rt; sink.written().as_slice(), answers);
-        assert_eq!(rt; disks[0].len(0)?, 9);
-    }
-    Ok(())
-}
+/// The types of a disk that another program wrote: `Empty`, without members, and `Link` with a reference.
+const FOREIGN_TYPES: &[u8] = b"ESD1\x01\x00\x01\x00\
+\x01\x0a\x00\x00\x0016 Empty{}\
+\x01\x0f\x00\x00\x0017 Link{ref to}\x00";
 
-/// The bytes of a log that another program wrote: two entities in one store.
-const FOREIGN: &[u8] = b"ESP1\x01\x00\x01\x00\x01\x5a\x00\x00\x00\
+/// Its stores: one of two entities, of which the second refers to the first.
+const FOREIGN: &[u8] = b"ESP1\x02\x00\x01\x00\x01\x58\x00\x00\x00\
 \x01\x00\x00\x00\x00\x00\x00\x00\x05\x04\x00\x00\x00\x00\x00\x00\
-\x20\x00\x00\x00\x00\x00\x00\x00\x00\x00\x00\x00\x00\x00\x00\x00\x01\x04\x00\x00\x00\x00\x00\x00\x00\x00\x00\x00\x00\x00\x00\x00\
-\x2a\x00\x00\x00\x00\x00\x00\x00\x07\x00\x00\x00\x00\x00\x00\x00\x03\x04\x00\x00\x00\x00\x00\x00\x01\x00\x00\x00\x00\x00\x00\x00\
-\x01\x04\x00\x00\x00\x00\x00\x00\x09\x09\x00";
+\x20\x00\x00\x00\x00\x00\x00\x00\x10\x00\x00\x00\x00\x00\x00\x00\x01\x04\x00\x00\x00\x00\x00\x00\x00\x00\x00\x00\x00\x00\x00\x00\
+\x28\x00\x00\x00\x00\x00\x00\x00\x11\x00\x00\x00\x00\x00\x00\x00\x03\x04\x00\x00\x00\x00\x00\x00\x01\x00\x00\x00\x00\x00\x00\x00\
+\x01\x04\x00\x00\x00\x00\x00\x00\x00";
+
+/// A disk with these two files.
+fn with_files(alloc: Global, stores: &[u8], types: &[u8]) -> Result<Vec<MemDisk>, Fail>
+    ensures { IfOk result (λ disks. length disks.items ≡ 1) }
+{
+    let mut disk = MemDisk::new(alloc, Vec::new(alloc), None);
+    disk.write(0, 0, stores)?;
+    disk.write(1, 0, types)?;
+    alone(alloc, disk)
+}
+
+/// What a disk answers whose byte at this place of the stores is another.
+fn answered_with(alloc: Global, at: usize, byte: u8) -> Result<(Status, Vec<u8>), Fail> {
+    let mut stores = Vec::from_slice(alloc, FOREIGN)?;
+    if at < stores.len() {
+        stores[at] = byte;
+    }
+    let mut disks = with_files(alloc, &stores, FOREIGN_TYPES)?;
+    let mut sink = MemSink::new(alloc, Vec::new(alloc));
+    let status = run(alloc, b"new c Empty", &mut sink, &mut disks)?;
+    let written = Vec::from_slice(alloc, sink.written())?;
+    Ok((status, written))
+}
 
 #[test]
 fn logs_of_others(rt: HostRuntime) -> Result<(), Fail> {
     let alloc = rt.alloc();
+    // The gate; the number of the store; the header, and its older version; an id that is not above the one before.
+    // An unknown type, the root's type, a form of another type, a reference to what is not there.
+    for (at, byte, answers) in [
+        (13, 1, b"new 1029\n".as_slice()),
+        (8, 0, b"new 1024\n".as_slice()),
+        (13, 2, b"damaged 0 header\n".as_slice()),
+        (0, 70, b"damaged 0 header\n".as_slice()),
+        (4, 1, b"damaged 0 header\n".as_slice()),
+        (77, 1, b"damaged 0 header\n".as_slice()),
+        (37, 18, b"damaged 0 header\n".as_slice()),
+        (69, 1, b"damaged 0 header\n".as_slice()),
+        (69, 16, b"damaged 0 header\n".as_slice()),
+        (93, 2, b"damaged 0 header\n".as_slice()),
+    ] {
+        let (status, written) = answered_with(alloc, at, byte)?;
+        assert_eq!(rt; written.as_slice(), answers, "{at}");
+        assert_eq!(rt;
+            status == Status::Done,
+            written.starts_with(b"new "),
+            "{at}"
+        );
+    }
+    Ok(())
+}
+
+#[test]
+fn a_damaged_disk_stays(rt: HostRuntime) -> Result<(), Fail> {
+    let alloc = rt.alloc();
+    // The stores have no types, and the file of types gets no header.
+    let mut disks = with_files(alloc, FOREIGN, b"")?;
+    let mut sink = MemSink::new(alloc, Vec::new(alloc));
+    let status = run(alloc, b"new c Empty", &mut sink, &mut disks)?;
     let damaged = Status::Damaged {
         channel: 0,
         cause: Cause::Header,
     };
-    // An id of the second entity that is not above the first, and a number that is not 1.
-    for (at, byte, status, answers) in [
-        (13, 1, Status::Done, b"new 1029\n".as_slice()),
-        (77, 1, damaged, b"damaged 0 header\n".as_slice()),
-        (13, 2, damaged, b"damaged 0 header\n".as_slice()),
-        (0, 70, damaged, b"damaged 0 header\n".as_slice()),
-        (8, 0, Status::Done, b"new 1024\n".as_slice()),
-    ] {
-        let mut disk = MemDisk::new(alloc, Vec::new(alloc), None);
-        let mut bytes = Vec::from_slice(alloc, FOREIGN)?;
-        if at < bytes.len() {
-            bytes[at] = byte;
-        }
-        disk.write(0, 0, &bytes)?;
-        let mut disks = alone(alloc, disk)?;
-        let mut sink = MemSink::new(alloc, Vec::new(alloc));
-        assert_eq!(rt; run(alloc, b"new c Node", &mut sink, &mut disks)?, status);
-        assert_eq!(rt; sink.written().as_slice(), answers);
-        assert_eq!(rt; disks[0].len(0)?, FOREIGN.len() as u64);
-    }
+    assert_eq!(rt; status, damaged);
+    assert_eq!(rt; disks[0].len(0)?, 102);
+    assert_eq!(rt; disks[0].len(1)?, 0);
     Ok(())
 }
 
@@ -166,27 +127,35 @@ fn stored_lines(output: &[u8]) -> usize {
 #[test]
 fn stops(rt: HostRuntime) -> Result<(), Fail> {
     let alloc = rt.alloc();
-    for stop in 0..18u64 {
+    for stop in 0..27u64 {
         for pick in [Pick::Synced, Pick::Written, Pick::Filled(7)] {
             let mut disks = fresh(alloc, Vec::new(alloc), Some(stop))?;
             let mut sink = MemSink::new(alloc, Vec::new(alloc));
             let status = run(alloc, SCRIPT, &mut sink, &mut disks)?;
-            // Three calls open the log, and each store makes six.
-            assert_eq!(rt; status == Status::Done, stop >= 15, "{stop} {pick:?}");
+            // Three calls open each log, and the type and each store make six.
+            assert_eq!(rt; status == Status::Done, stop >= 24, "{stop} {pick:?}");
             let told = stored_lines(sink.written());
             let Some(disk) = disks.pop() else {
                 return Err(Fail);
             };
             let mut disks = alone(alloc, disk.restart(pick, Vec::new(alloc), None)?)?;
             let mut sink = MemSink::new(alloc, Vec::new(alloc));
-            let status = run(alloc, b"new c Node\nstore c", &mut sink, &mut disks)?;
+            let status = run(
+                alloc,
+                b"type Node int:v\nnew c Node\nstore c",
+                &mut sink,
+                &mut disks,
+            )?;
             assert_eq!(rt; status, Status::Done);
             let next = format!(in alloc;
-                "new {}\nstored {} 1\n",
+                "type 16\nnew {}\nstored {} 1\n",
                 if told == 0 { 1024 } else { 1026 },
                 told.saturating_add(1)
             )?;
-            let more = format!(in alloc; "new 1026\nstored {} 1\n", told.saturating_add(2))?;
+            let more = format!(in alloc;
+                "type 16\nnew 1026\nstored {} 1\n",
+                told.saturating_add(2)
+            )?;
             let answers = sink.written().as_slice();
             assert!(rt;
                 answers == next.as_bytes() || answers == more.as_bytes(),
@@ -207,7 +176,7 @@ fn faults(rt: HostRuntime) -> Result<(), Fail> {
             3,
             99,
             Status::WriteFault,
-            b"new 1024\nnew 1025\n".as_slice(),
+            b"type 16\nnew 1024\n".as_slice(),
         ),
         (1, 99, 99, Status::ReadFault, b"".as_slice()),
         (9, 99, 1, Status::StorageFault, b"".as_slice()),
