@@ -4,7 +4,7 @@
 ghost use Rattle.std.specs.Prelude.{◌≡◌, length, IfOk};
 ghost use Rattle.serde_json.specs.Data.{no_members, array};
 ghost use Rattle.serde_json.specs.View.{view, items_view, members_view};
-ghost use Rattle.graph_export.specs.Line.{ids_data, value_data, with_members, line};
+ghost use Rattle.graph_export.specs.Line.{HasNoFeed, ids_data, value_data, with_members, line};
 
 use entity_form::{Object, Value};
 use graph_model::{Bytes, NoMemory};
@@ -60,7 +60,8 @@ fn members_json(
 /// Bytes are pairs of lower-case hexadecimal digits, references are numbers.
 pub fn line_of(alloc: Global, id: u64, object: &Object, desc: &TypeDesc) -> Result<Bytes, NoMemory>
     requires { length desc.now.members ≡ length object.now.values }
-    ensures { IfOk result (λ text. text ≡ line id object.now desc.now) }
+    ensures text { IfOk result (λ text. text ≡ line id object.now desc.now) }
+    ensures one_line { IfOk result (λ text. HasNoFeed text) }
 {
     let members = members_json(alloc, desc.members.as_slice(), object.values.as_slice())?;
     let mut line = Map::new(alloc);

@@ -13,8 +13,9 @@ use Rattle.session.specs.declared.session.Session.{Session}
 use Rattle.session.specs.declared.session.Turn.{Turn as Step}
 use Rattle.session.specs.declared.session.Turn.TheVariants as step
 use Rattle.session.specs.Due.{IsDue, Replied, without}
-use Rattle.session.specs.Exports.{IsLine, IsTellingFor}
+use Rattle.session.specs.Exports.{IsTellingFor}
 use Rattle.session.specs.Limits.{most_bytes}
+use Rattle.session.specs.Lines.{IsLine}
 use Rattle.session.specs.Stands.{StandsAt}
 use Rattle.session.specs.Steps.{steps_left}
 

@@ -1,5 +1,5 @@
 -- What is still due of a line: a turn of the model, of which the answers, the records and the stores are taken away one after another.
-use Rattle.std.specs.Prelude.{◌≡◌, ℕ, Bool, List, [], ◌∷◌, ◌++◌, codes}
+use Rattle.std.specs.Prelude.{◌≡◌, ℕ, Bool, Some, List, [], ◌∷◌, ◌++◌, length, codes}
 use Rattle.std.specs.Fmt.{decimal}
 use Rattle.graph_model.specs.declared.ask.Ask.{Ask}
 use Rattle.graph_model.specs.declared.ask.Ask.TheVariants as asks
@@ -13,6 +13,7 @@ use Rattle.session.specs.declared.outcome.Outcome.TheVariants as outcomes
 use Rattle.session.specs.declared.outcome.Phase.{Phase}
 use Rattle.session.specs.declared.outcome.Phase.TheVariants as phases
 use Rattle.session.specs.Exports.{TellsEntity, TellsLine}
+use Rattle.session.specs.Lines.{IsLine}
 use Rattle.session.specs.Loads.{GoesOn, TakesEntity}
 use Rattle.session.specs.Stands.{StandsAt}
 
@@ -43,7 +44,7 @@ IsDue asks.Tidy turn = Unit {0}
 -- nothing is due but this text, and all else is at the turn's state
 pub record Answers (text : List ℕ) (memory : Memory) (storage : Storage) (turn : Turn) : Type 0 where
   pub text_is : turn.text ≡ text
-  pub line : (front : List ℕ) × (text ≡ front ++ 10 ∷ [])
+  pub line : IsLine text
   pub records : turn.records ≡ []
   pub stores : turn.stores ≡ []
   pub stands : StandsAt memory storage turn.state
@@ -65,10 +66,23 @@ Replied (phases.Holding purpose) replies.Held memory storage turn = GoesOn purpo
 Replied (phases.Exporting export) (replies.Found entity) memory storage turn = TellsEntity export entity memory storage turn
 Replied _ _ memory storage turn = ⊥
 
+-- the ask is one of those whose reply the phase takes
+abbrev pub SuitsPhase : Ask → Phase → Type 0
+SuitsPhase (asks.Look x) (phases.Looking loading purpose) = loading.asked ≡ x
+SuitsPhase (asks.Look x) (phases.Exporting export) = export.asked ≡ Some x
+SuitsPhase (asks.Hold xs) (phases.Holding purpose) = Unit {0}
+SuitsPhase (asks.Release xs) (phases.Saying text) = Unit {0}
+SuitsPhase (asks.Store op) (phases.Storing count) = count ≡ length op.records
+SuitsPhase (asks.KeepType bytes) (phases.Saying text) = Unit {0}
+SuitsPhase asks.Collect phases.Collecting = Unit {0}
+SuitsPhase asks.Tidy (phases.Saying text) = Unit {0}
+SuitsPhase _ _ = ⊥
+
 -- an ask that may be asked and is due; and what is due after it once it is served
 pub record Awaits (is_next_type : List (List ℕ) → List ℕ → Bool) (ask : Ask) (phase : Phase) (memory : Memory) (storage : Storage) (turn : Turn) : Type 0 where
   pub may : MayAsk is_next_type storage ask
   pub due : IsDue ask turn
+  pub suits : SuitsPhase ask phase
   pub then_ : (reply : Reply) (new : Storage) → Served storage ask reply new → Replied phase reply memory new (without ask turn)
 
 -- what a command comes to is what is due

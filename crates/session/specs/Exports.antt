@@ -13,6 +13,7 @@ use Rattle.session_model.specs.Answer.{State, Turn, export_turn, exported, reach
 use Rattle.session_model.specs.Sound.{IsRightGraph}
 use Rattle.graph_model.specs.Served.{Storage}
 use Rattle.session.specs.declared.memory.Memory.{Memory}
+use Rattle.session.specs.Lines.{IsLine}
 use Rattle.session.specs.Stands.{StandsAt}
 use Rattle.session.specs.declared.exporting.ExportStep.{ExportStep}
 use Rattle.session.specs.declared.exporting.ExportStep.TheVariants as steps
@@ -94,10 +95,6 @@ pub record IsExporting (state : State) (text : List ℕ) (p : Exported) : Type 0
 abbrev pub IsGiven : Graph → Exported → Option Entity → Type 0
 IsGiven g p None = Unit {0}
 IsGiven g p (Some entity) = (x : ℕ) → p.asked ≡ Some x → entity_of g x ≡ Some entity
-
--- a line, with its line feed
-abbrev pub IsLine : List ℕ → Type 0
-IsLine bytes = (front : List ℕ) × (bytes ≡ front ++ 10 ∷ [])
 
 -- an id is asked for that the root reaches; or a line was told; or with the last line the text is the model's. No entity is broken.
 abbrev pub IsExportStep : State → List ℕ → Exported → ExportStep → Type 0

@@ -5,6 +5,7 @@ pub mod Due
 pub mod Exports
 pub mod ExportEnds
 pub mod Limits
+pub mod Lines
 pub mod LoadSteps
 pub mod Loads
 pub mod Namings
@@ -15,3 +16,5 @@ pub mod Shown
 pub mod Stands
 pub mod Steps
 pub mod StoreAsks
+pub mod Fitting
+pub mod Steady

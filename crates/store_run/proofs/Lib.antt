@@ -1,5 +1,4 @@
 pub mod WholeLines
-pub mod Feedless
 pub mod Said
 pub mod AnswerLines
 pub mod Appends

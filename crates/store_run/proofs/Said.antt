@@ -16,9 +16,10 @@ use Rattle.session_model.specs.Loading.{Converted, Loaded, NoType, WrongKind, cl
 use Rattle.session_model.specs.Answer.{State, Turn, answered, collect_turn, command_turn, desc_of_instance, export_turn, first_instances, follow_turn, forget_turn, fresh, id_of, is_known, loaded_turn, named_instance, needs_start, no_desc, reached_records, refused, show_turn, started_turn, store_turn, stored, turn, turn_of, type_known, type_new, type_turn, with_loaded}
 use Rattle.session_model.specs.Types.{desc_of, is_root_type, latest_id, repeats_member, root_type}
 use Rattle.session.specs.Limits.{most_bytes}
-use Rattle.store_run.specs.Lines.{AllHaveNoFeed, HasNoFeed, ended}
+use Rattle.graph_export.specs.Line.{HasNoFeed}
+use Rattle.store_run.specs.Lines.{AllHaveNoFeed, ended}
 use Rattle.store_run.specs.Acknowledged.{says_stored}
-use Rattle.store_run.proofs.Feedless.{decimal_no_feed, feedless, feedless_is, line_no_feed, no_feed-append}
+use Rattle.graph_export.proofs.Feedless.{decimal_no_feed, feedless, feedless_is, line_no_feed, no_feed-append}
 
 -- the last line says that a store was kept where one is made, and no other line does
 pub record IsSaid (made : Turn) : Type 0 where

@@ -1,7 +1,8 @@
 -- The whole lines of a text, and of its parts.
 use Rattle.std.proofs.Common.{◌≡◌, ◌<◌, ◌≤◌, ◌++◌, ◌==◌, [], ◌∷◌, ℕ, Bool, true, false, cond, if◌then◌else◌, List, length, count_by, refl, ap, ◌∙◌, arith, append_assoc, length-append}
 use Rattle.std.proofs.lemmas.List.Sums.{sum_by-append}
-use Rattle.store_run.specs.Lines.{AllHaveNoFeed, HasNoFeed, ended, whole_lines, with_front}
+use Rattle.graph_export.specs.Line.{HasNoFeed}
+use Rattle.store_run.specs.Lines.{AllHaveNoFeed, ended, whole_lines, with_front}
 use Rattle.store_run.specs.Acknowledged.{count_stored, says_stored}
 
 pub whole_first : (text rest : List ℕ) → HasNoFeed text → whole_lines (text ++ 10 ∷ rest) ≡ text ∷ whole_lines rest

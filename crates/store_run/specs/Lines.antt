@@ -1,5 +1,6 @@
 -- The lines of a text.
-use Rattle.std.specs.Prelude.{◌≡◌, ℕ, ◌==◌, false, if◌then◌else◌, List, [], ◌∷◌, ◌++◌}
+use Rattle.std.specs.Prelude.{ℕ, ◌==◌, if◌then◌else◌, List, [], ◌∷◌, ◌++◌}
+use Rattle.graph_export.specs.Line.{HasNoFeed}
 
 -- one byte more in front of the first line, or of a line that begins with it
 abbrev pub with_first : ℕ → List (List ℕ) → List (List ℕ)
@@ -25,11 +26,6 @@ whole_lines (b ∷ bytes) = if b == 10 then [] ∷ whole_lines bytes else with_f
 abbrev pub ended : List (List ℕ) → List ℕ
 ended [] = []
 ended (line ∷ lines) = line ++ 10 ∷ ended lines
-
--- no byte of it is a line feed
-abbrev pub HasNoFeed : List ℕ → Type 0
-HasNoFeed [] = Unit {0}
-HasNoFeed (b ∷ bytes) = ((b == 10) ≡ false) × HasNoFeed bytes
 
 abbrev pub AllHaveNoFeed : List (List ℕ) → Type 0
 AllHaveNoFeed [] = Unit {0}

@@ -5,7 +5,8 @@ use Rattle.plain_storage.specs.Held.{PlainHeld}
 use Rattle.plain_storage.specs.Images.{EachPair}
 use Rattle.plain_storage.specs.Keeping.{HoldsEither, Keeps, Plain, held_in}
 use Rattle.store_run.specs.Answer.{answers, held_after, opened_on, records_of, state_after, stores_of}
-use Rattle.store_run.specs.Lines.{lines_of, ended, HasNoFeed, AllHaveNoFeed}
+use Rattle.graph_export.specs.Line.{HasNoFeed}
+use Rattle.store_run.specs.Lines.{lines_of, ended, AllHaveNoFeed}
 use Rattle.store_run.specs.Run.{AreAnswered, EndsLine}
 use Rattle.store_run.specs.Serving.{IsAt}
 use Rattle.store_run.specs.declared.stop.Stop.{Stop}

@@ -7,8 +7,7 @@ use Rattle.serde_json.specs.Data.{Data, Num, unsigned, negative, float, null, bo
 use Rattle.serde_json.specs.Written.{comma_if, compact_text, items_text, members_text, number_text}
 use Rattle.type_desc.specs.declared.desc.TypeDesc.{TypeDesc}
 use Rattle.entity_form.specs.declared.value.Object.{Object}
-use Rattle.graph_export.specs.Line.{line, line_data}
-use Rattle.store_run.specs.Lines.{HasNoFeed}
+use Rattle.graph_export.specs.Line.{HasNoFeed, line, line_data}
 
 abbrev pub feedless : List ℕ → Bool
 feedless [] = true
