@@ -1,6 +1,6 @@
 -- The bytes of entities: how they are written one after the other, read again, and told apart.
 use Rattle.std.proofs.Common.{◌≡◌, ℕ, suc, ◌+◌, ◌*◌, ◌%◌, ◌^◌, ◌≤◌, ◌<◌, List, [], ◌∷◌, ◌++◌, length, get_or, take, drop, Option, Some, None, refl, sym, ap, subst, ◌∙◌, append_assoc, arith}
-use Rattle.std.specs.List.{flat_map, AllByRecursion}
+use Rattle.std.specs.List.{AllByRecursion}
 use Rattle.std.proofs.lemmas.Grind.{flat_map-append, take_at_read}
 use Rattle.std.proofs.lemmas.List.{length-append, length-take, length-drop, append-nil, drop-drop, drop_all, take-append-drop}
 use Rattle.field_bytes.specs.Fields.{bytes_of, number_at, with_bytes, with_number}

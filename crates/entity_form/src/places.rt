@@ -5,8 +5,11 @@ ghost use Rattle.field_bytes.specs.Fields.{number_at};
 
 use field_bytes::read_u64_at;
 
-/// The bytes of an entity before its references.
-pub const HEADER: usize = 32;
+/// How many bytes an entity has before its references.
+pub const HEADER_BYTES: usize = 32;
+
+/// The most bytes that an entity has.
+pub const MAX_ENTITY_BYTES: u64 = 1_048_576;
 
 /// The numbers that an entity begins with.
 #[derive(Clone, Copy, Debug, PartialEq, Eq)]
@@ -26,7 +29,7 @@ pub fn header_at(bytes: &[u8], at: usize) -> Option<Header>
     ensures none { IsNone result ↔ (length bytes.now < at + 32) }
 {
     let header = bytes.get(at..)?;
-    if header.len() < HEADER {
+    if header.len() < HEADER_BYTES {
         return None;
     }
     Some(Header {
@@ -43,6 +46,9 @@ pub fn ref_at(bytes: &[u8], at: usize, i: u64) -> Option<u64>
     ensures { result ≡ number_at 8 bytes.now ((at + 32) + 8 * i) }
 {
     let index = usize::try_from(i).ok()?;
-    let place = index.checked_mul(8)?.checked_add(at)?.checked_add(HEADER)?;
+    let place = index
+        .checked_mul(8)?
+        .checked_add(at)?
+        .checked_add(HEADER_BYTES)?;
     read_u64_at(bytes, place)
 }

@@ -9,16 +9,13 @@ ghost use Rattle.type_desc.specs.Prefixes.{Spells};
 ghost use Rattle.entity_form.specs.Spelling.{IsEntity, IsHeaderOf, numbers_bytes, entity_bytes};
 
 use crate::fault::FormFault;
-use crate::places::{HEADER, Header, header_at};
+use crate::places::{HEADER_BYTES, Header, MAX_ENTITY_BYTES, header_at};
 use field_bytes::{read_u64_at, write_u64_at};
 use graph_model::{Bytes, Entity, Ids};
 use std::alloc::{AllocError, Global};
 
 /// The bytes of a reference.
 const REF: usize = 8;
-
-/// The most bytes of an entity.
-const MAX_ENTITY: u64 = 1_048_576;
 
 /// Writes numbers at a place, and answers the place behind them.
 fn put_numbers(out: &mut [u8], at: usize, numbers: &[u64]) -> usize
@@ -56,7 +53,7 @@ pub fn write_entity(id: u64, entity: &Entity, out: &mut [u8], at: usize) -> usiz
 {
     let refs = entity.refs.as_slice();
     let plain = entity.plain.as_slice();
-    let length = HEADER + REF * refs.len() + plain.len();
+    let length = HEADER_BYTES + REF * refs.len() + plain.len();
     let header = [length as u64, entity.type_id, id, refs.len() as u64];
     let behind_header = put_numbers(out, at, &header);
     let behind_refs = put_numbers(out, behind_header, refs);
@@ -85,10 +82,10 @@ fn is_header_of(header: &Header, length: usize) -> bool
     ensures no { IsFalse result → ¬ (IsHeaderOf header.now length) }
 {
     header.length == length as u64
-        && header.length <= MAX_ENTITY
+        && header.length <= MAX_ENTITY_BYTES
         && header.type_id >= 1
         && header.id >= 1
-        && header.count <= (header.length - HEADER as u64) / REF as u64
+        && header.count <= (header.length - HEADER_BYTES as u64) / REF as u64
 }
 
 /// The one entity that the bytes spell, and its id.
@@ -106,7 +103,7 @@ pub fn read_entity(alloc: Global, bytes: &[u8]) -> Result<(u64, Entity), FormFau
     if !is_header_of(&header, bytes.len()) {
         return Err(FormFault::Bad);
     }
-    let (refs, plain) = bytes[HEADER..].split_at(REF * header.count as usize);
+    let (refs, plain) = bytes[HEADER_BYTES..].split_at(REF * header.count as usize);
     let entity = Entity {
         type_id: header.type_id,
         refs: Ids::new(numbers_in(alloc, refs)?),

@@ -2,21 +2,17 @@
 
 ghost use Rattle.std.specs.Prelude.{◌≡◌, ◌++◌, ◌+◌, ◌-◌, ◌<◌, ◌≤◌, ◌^◌, length, min, IfOk, IfErr, OnOk, sum_by};
 ghost use Rattle.graph_model.specs.Graph.{entity_size};
-ghost use Rattle.entity_form.specs.Faults.{IsTooBig};
+ghost use Rattle.entity_form.specs.Faults.{IsEncodeFault};
 ghost use Rattle.entity_form.specs.Form.{Holds};
 ghost use Rattle.entity_form.specs.Values.{refs_of, plain_of, sized, value_size, entity_of, kinds_of, AreOf, IsHeld};
 
 use crate::fault::EncodeFault;
+use crate::places::{HEADER_BYTES, MAX_ENTITY_BYTES};
 use crate::value::{Object, Value};
+use field_bytes::{push_u32, push_u64};
 use graph_model::{Bytes, Entity, Ids};
 use std::alloc::{AllocError, Global};
 use type_desc::TypeDesc;
-
-/// The bytes of an entity before its references.
-const HEADER: u64 = 32;
-
-/// The most bytes of an entity.
-const MAX_ENTITY: u64 = 1_048_576;
 
 fn put_refs(out: &mut Vec<u64>, value: &Value) -> Result<(), AllocError>
     ensures { OnOk result (out.new.items ≡ out.old.items ++ refs_of value.now) }
@@ -33,7 +29,7 @@ fn put_sized(out: &mut Vec<u8>, bytes: &[u8]) -> Result<(), AllocError>
     requires { length bytes.now < 2 ^ 32 }
     ensures { OnOk result (out.new.items ≡ out.old.items ++ sized bytes.now) }
 {
-    out.extend_from_slice(&(bytes.len() as u32).to_le_bytes())?;
+    push_u32(out, bytes.len() as u32)?;
     out.extend_from_slice(bytes)?;
     Ok(())
 }
@@ -44,12 +40,10 @@ fn put_plain(out: &mut Vec<u8>, value: &Value) -> Result<(), AllocError>
     ensures held { OnOk result (IsHeld value.now) }
 {
     match value {
-        Value::Int(number) => out.extend_from_slice(&number.to_le_bytes())?,
+        Value::Int(number) => push_u64(out, number.cast_unsigned())?,
         Value::Text(text) => put_sized(out, text.as_str().as_bytes())?,
         Value::Bytes(bytes) => put_sized(out, bytes.as_slice())?,
-        Value::Refs(ids) => {
-            out.extend_from_slice(&(ids.as_slice().len() as u32).to_le_bytes())?;
-        }
+        Value::Refs(ids) => push_u32(out, ids.as_slice().len() as u32)?,
         Value::Ref(_) | Value::Lazy(_) => {}
     }
     Ok(())
@@ -73,7 +67,7 @@ fn size_of_value(value: &Value) -> u64
 fn size_of(values: &[Value]) -> u64
     ensures { result ≡ min (32 + sum_by value_size values.now) (2 ^ 64 - 1) }
 {
-    let mut size = HEADER;
+    let mut size = HEADER_BYTES as u64;
     for value in values {
         size = size.saturating_add(size_of_value(value));
     }
@@ -87,11 +81,12 @@ pub fn encode(alloc: Global, object: &Object, desc: &TypeDesc) -> Result<Entity,
     // The entity has the type's form, and these values are read from it.
     ensures held { IfOk result (λ e. Holds (kinds_of desc.now) e.refs e.plain object.now.values) }
     ensures fits { IfOk result (λ e. entity_size e ≤ 1048576) }
-    ensures too_big { IfErr result (λ f. IsTooBig (entity_size (entity_of object.now)) f) }
+    // An object whose entity is too big is refused as such, whether there is memory or not.
+    ensures fault { IfErr result (λ f. IsEncodeFault (entity_size (entity_of object.now)) f) }
 {
     let values = object.values.as_slice();
     let length = size_of(values);
-    if length > MAX_ENTITY {
+    if length > MAX_ENTITY_BYTES {
         return Err(EncodeFault::TooBig { length });
     }
     let mut refs = Vec::new(alloc);

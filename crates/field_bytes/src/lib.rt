@@ -1,10 +1,11 @@
 //! Numbers at places in bytes, the lowest byte first.
 #![tactic(auto)]
 
-ghost use Rattle.std.specs.Prelude.{◌≡◌, ◌≤◌, ◌+◌, length};
-ghost use Rattle.field_bytes.specs.Fields.{number_at, with_number};
+ghost use Rattle.std.specs.Prelude.{◌≡◌, ◌≤◌, ◌+◌, ◌++◌, length, OnOk, OnErr};
+ghost use Rattle.field_bytes.specs.Fields.{bytes_of, number_at, with_number};
 
 use byteorder::{ByteOrder, LittleEndian};
+use std::alloc::AllocError;
 
 /// The bytes that a `u32` takes.
 const U32_BYTES: usize = 4;
@@ -48,6 +49,26 @@ pub fn write_u64_at(bytes: &mut [u8], at: usize, value: u64)
     ensures { bytes.new ≡ with_number 8 bytes.old at value }
 {
     LittleEndian::write_u64(&mut bytes[at..at + U64_BYTES], value);
+}
+
+/// Puts the four bytes of the number behind the bytes. Without memory they stay as they were.
+pub fn push_u32(bytes: &mut Vec<u8>, value: u32) -> Result<(), AllocError>
+    ensures ok { OnOk result (bytes.new.items ≡ bytes.old.items ++ bytes_of 4 value) }
+    ensures err { OnErr result (bytes.new.items ≡ bytes.old.items) }
+{
+    let mut field = [0u8; U32_BYTES];
+    write_u32_at(&mut field, 0, value);
+    bytes.extend_from_slice(&field)
+}
+
+/// Puts the eight bytes of the number behind the bytes. Without memory they stay as they were.
+pub fn push_u64(bytes: &mut Vec<u8>, value: u64) -> Result<(), AllocError>
+    ensures ok { OnOk result (bytes.new.items ≡ bytes.old.items ++ bytes_of 8 value) }
+    ensures err { OnErr result (bytes.new.items ≡ bytes.old.items) }
+{
+    let mut field = [0u8; U64_BYTES];
+    write_u64_at(&mut field, 0, value);
+    bytes.extend_from_slice(&field)
 }
 
 #[cfg(test)]

@@ -1,4 +1,5 @@
 use super::*;
+use std::test::Fail;
 
 const BYTES: [u8; 9] = [0x01, 0x02, 0x03, 0x04, 0x05, 0x06, 0x07, 0x08, 0xff];
 
@@ -22,4 +23,14 @@ fn writes_the_lowest_byte_first(rt: HostRuntime) {
     write_u64_at(&mut bytes, 5, 0x0807_0605_0403_02ff);
     let want: [u8; 14] = [7, 1, 2, 3, 4, 0xff, 2, 3, 4, 5, 6, 7, 8, 7];
     assert_eq!(rt; bytes.as_slice(), want.as_slice());
+}
+
+#[test]
+fn pushes_the_lowest_byte_first(rt: HostRuntime) -> Result<(), Fail> {
+    let mut bytes = Vec::from_slice(rt.alloc(), &[7])?;
+    push_u32(&mut bytes, 0x0403_0201)?;
+    push_u64(&mut bytes, 0x0807_0605_0403_02ff)?;
+    let want: [u8; 13] = [7, 1, 2, 3, 4, 0xff, 2, 3, 4, 5, 6, 7, 8];
+    assert_eq!(rt; bytes.as_slice(), want.as_slice());
+    Ok(())
 }

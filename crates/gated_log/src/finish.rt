@@ -24,9 +24,10 @@ impl Opening {
         ensures untouched { 9 < self.len → disk.new ≡ disk.old }
         ensures whole { 9 < self.len → IsOkAnd result (λ log. (log.length ≡ self.at + 1) × (log.count ≡ self.count)) }
 
-        // A short one is written, and in each image it is still short.
+        // A short one is written and synced, and whatever stops it, in each image it is still short.
         ensures fresh { self.len ≤ 9 → IfOk result (λ log. (log.length ≡ 9) × (log.count ≡ 0)) }
         ensures written { IsTrue D.tells → self.len ≤ 9 → OnOk result (D.reads disk.new self.file ≡ self.header ++ 0 ∷ []) }
+        ensures synced { IsTrue D.tells → self.len ≤ 9 → OnOk result (Only (D.reads disk.new self.file) (D.leaves disk.new self.file)) }
         ensures short { IsTrue D.tells → Only (D.reads disk.old self.file) (D.leaves disk.old self.file) → self.len ≤ 9 → Each (D.leaves disk.new self.file) (λ image. length image ≤ 9) }
 
         ensures clean { IsTrue D.tells → Only (D.reads disk.old self.file) (D.leaves disk.old self.file) → OnOk result (Only (D.reads disk.new self.file) (D.leaves disk.new self.file)) }

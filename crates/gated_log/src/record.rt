@@ -4,6 +4,7 @@ ghost use Rattle.store_io.specs.Disk.{Follows, Only, OthersStay, Rose};
 ghost use Rattle.gated_log.specs.Log.{payloads_of, length_of, record_of, IsLogOf, IsBeforeOrAfter, Each, Keeps, StandsAt};
 
 use crate::gate::{CLOSED, open_gate};
+use field_bytes::write_u32_at;
 use store_io::{Disk, DiskFailed};
 
 /// Writes the record with a closed gate.
@@ -18,7 +19,8 @@ fn write_record<D: Disk>(disk: &mut D, file: u32, at: u64, payload: &[u8]) -> Re
     ensures cause { OnErr result (Rose (D.faults disk.old) (D.faults disk.new)) }
     ensures read_calls { D.read_calls disk.new ≡ D.read_calls disk.old }
 {
-    let size = (payload.len() as u32).to_le_bytes();
+    let mut size = [0u8; 4];
+    write_u32_at(&mut size, 0, payload.len() as u32);
     disk.write(file, at, &size)?;
     disk.write(file, at + 4, payload)?;
     disk.write(file, at + 4 + payload.len() as u64, &[CLOSED])?;

@@ -1,6 +1,6 @@
 use Rattle.std.proofs.Common.{sym, arith}
 use Rattle.field_bytes.proofs.Laws.{IsBytes}
-use Rattle.entity_form.proofs.Spellings.{nothing_read, one_more_read, all_read}
+use Rattle.entity_form.proofs.Spellings.{one_more_read}
 use Rattle.entity_form.proofs.spelling.numbers_in.Goals as goal
 
 pub loop-number-preserved : goal.loop-number-preserved

@@ -1,8 +1,7 @@
-use Rattle.std.proofs.Common.{◌≡◌, ◌*◌, ◌≤◌, ◌<◌, length, take, drop, ap, [], sym, ◌∙◌, arith, rules}
+use Rattle.std.proofs.Common.{◌*◌, ◌≤◌, ◌<◌, length, take, drop, ap, [], sym, ◌∙◌, arith, rules}
 use Rattle.std.specs.Prelude.{IsTrue, IsFalse, IsNone}
 use Rattle.std.proofs.lemmas.List.{append-nil, take_rest}
 use Rattle.field_bytes.proofs.Laws.{IsBytes}
-use Rattle.entity_form.specs.Spelling.{IsEntity, entity_bytes}
 use Rattle.entity_form.proofs.Spellings.{BeginsWithHeader, spelled_is_long, spelled_has_header, whole_read, told_apart}
 use Rattle.entity_form.proofs.spelling.read_entity.Goals as goal
 

@@ -21,7 +21,7 @@ returns-in_err-write-3-clause-stop g c told =
 pub returns-clause-written : goal.returns-clause-written
 returns-clause-written g c told =
     let within = c.requires.within told in
-    let size = c.to_le_bytes-size.result in
+    let size = c.write_u32_at.new.bytes in
     let is : size ≡ to_le_bytes w32 (length c.args.payload.now) = search rules in
     let first = stands c.args.at size _ _ (c.in_ok-write.ensures.written told) in
     let second = stands_on c.args.at (c.args.at + 4) size c.args.payload.now _ _ _ within (omega (arith, ap length is)) first (c.in_ok-write-2.ensures.written told) in
