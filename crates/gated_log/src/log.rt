@@ -37,14 +37,14 @@ pub struct GatedLog {
 }
 
 impl Model for GatedLog {
-    ghost use Rattle.std.specs.Prelude.{◌≤◌};
+    ghost use Rattle.std.specs.Prelude.{◌+◌, ◌≤◌};
     ghost use Rattle.gated_log.specs.State.{LogState};
 
     ghost Value = { LogState };
 
     ghost view = { λ l. record { file = l.file; header = l.header; length = l.end; count = l.count } };
 
-    ghost invariant = { λ l. (9 ≤ l.end) × (l.count ≤ l.end) };
+    ghost invariant = { λ l. l.count + 9 ≤ l.end };
 }
 
 impl GatedLog {
@@ -63,7 +63,7 @@ impl GatedLog {
     /// The number of payloads.
     pub fn count(&self) -> u64
         ensures value { result ≡ self.now.count }
-        ensures within { self.now.count ≤ self.now.length }
+        ensures within { self.now.count < self.now.length }
     {
         self.count
     }

@@ -41,14 +41,14 @@ pub struct Opening {
 }
 
 impl Model for Opening {
-    ghost use Rattle.std.specs.Prelude.{◌≤◌, ◌<◌};
+    ghost use Rattle.std.specs.Prelude.{◌+◌, ◌≤◌, ◌<◌};
     ghost use Rattle.gated_log.specs.State.{OpeningState};
 
     ghost Value = { OpeningState };
 
     ghost view = { λ o. record { file = o.file; header = o.header; len = o.len; at = o.at; count = o.count; ended = o.ended } };
 
-    ghost invariant = { λ o. (8 ≤ o.at) × (o.count ≤ o.at) × (9 < o.len → o.at < o.len) };
+    ghost invariant = { λ o. (o.count + 8 ≤ o.at) × (9 < o.len → o.at < o.len) };
 }
 
 impl Opening {
