@@ -188,11 +188,11 @@ impl Loading {
         &mut self,
         types: &Dictionary,
         table: &RefactorTable,
-        object: &Object,
+        object: Object,
     ) -> Result<Outcome, NoMemory>
-        requires typed { IsTyped types.now object.now }
+        requires typed { IsTyped types.now object }
         requires mappings { AreMappings types.now table.now self.old.mappings }
-        ensures outcome { IfOk result (Becomes types.now table.now object.now) }
+        ensures outcome { IfOk result (Becomes types.now table.now object) }
         ensures mappings { OnOk result (AreMappings types.now table.now self.new.mappings) }
         ensures progress { OnOk result (IsAsFar self.old self.new) }
     {
@@ -210,11 +210,11 @@ impl Loading {
         registry: &Registry,
         types: &Dictionary,
         table: &RefactorTable,
-        object: &Object,
+        object: Object,
     ) -> Result<LoadStep, NoMemory>
-        requires typed { IsTyped types.now object.now }
+        requires typed { IsTyped types.now object }
         requires mappings { AreMappings types.now table.now self.old.mappings }
-        ensures step { IfOk result (TurnsBy types.now table.now registry.now.instances object.now self.old self.new) }
+        ensures step { IfOk result (TurnsBy types.now table.now registry.now.instances object self.old self.new) }
         ensures mappings { OnOk result (AreMappings types.now table.now self.new.mappings) }
     {
         match self.convert(types, table, object) {
@@ -236,7 +236,7 @@ impl Loading {
         ensures mappings { OnOk result (AreMappings types.now table.now self.new.mappings) }
     {
         match read(self.alloc, types, entity) {
-            Ok(Some(object)) => self.take_object(registry, types, table, &object),
+            Ok(Some(object)) => self.take_object(registry, types, table, object),
             Ok(None) => Ok(LoadStep::Broken { id: self.asked }),
             Err(NoMemory) => Err(NoMemory),
         }
