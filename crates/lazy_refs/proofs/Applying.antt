@@ -27,7 +27,7 @@ pub no_latest : (types : List TypeDesc) (pairs : List Pair) (old : TypeDesc) (en
 no_latest types pairs old entity none = ap (λ (o : Option ℕ). converted_if pairs entity old o (desc_at types o)) none
 
 -- a target name with a type
-latest_is : (types : List TypeDesc) (pairs : List Pair) (old new : TypeDesc) (new_type : ℕ) (entity : Entity) → latest_id types (target_name pairs old.name) ≡ Some new_type
+pub latest_is : (types : List TypeDesc) (pairs : List Pair) (old new : TypeDesc) (new_type : ℕ) (entity : Entity) → latest_id types (target_name pairs old.name) ≡ Some new_type
     → desc_of types new_type ≡ Some new → converted_from types pairs entity (Some old) ≡ loading.converted_to pairs entity old new_type new
 latest_is types pairs old new new_type entity is known =
     ap (λ (o : Option ℕ). converted_if pairs entity old o (desc_at types o)) is ∙ ap (λ (d : Option TypeDesc). converted_if pairs entity old (Some new_type) d) known
@@ -45,6 +45,7 @@ from_between types pairs old new new_type (mappings.Converted id plan) is known 
   new = new;
   known = ap (desc_of types) m.0 ∙ known;
   suits = m.3;
+  apart = m.4;
   becomes = λ entity values read. latest_is types pairs old new new_type entity is known
       ∙ ap (λ (b : Bool). cond b (Converted.Loaded (record { type_id = new_type; values = loading.converted (values_in (values_at (kinds_of old) 0 entity.refs entity.plain)) (kinds_of new) (sources_of pairs old new new.members) })) Converted.WrongKind) m.2
       ∙ loaded_by new_type new values (sources_of pairs old new new.members) plan (values_at (kinds_of old) 0 entity.refs entity.plain) read m.1

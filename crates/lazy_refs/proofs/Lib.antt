@@ -3,6 +3,8 @@ pub mod Finding
 pub mod Naming
 pub mod Sourcing
 pub mod Applying
+pub mod Typing
+pub mod Tabled
 pub mod Waiting
 pub mod Turning
 pub mod Orders

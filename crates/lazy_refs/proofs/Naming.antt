@@ -12,7 +12,7 @@ use Rattle.refactor_table.specs.Pairs.{AreSound, Leads, pair_of}
 use Rattle.refactor_table.specs.declared.name.Pair.{Pair}
 use Rattle.refactor_table.specs.declared.name.RefName.{RefName}
 use Rattle.refactor_table.specs.declared.name.RefName.TheVariants.{OfType, OfMember}
-use Rattle.legacy_mapping.specs.Sources.{IsNamed}
+use Rattle.legacy_mapping.specs.Sources.{IsNamed, IsTarget}
 use Rattle.session_model.specs.Types.{is_same_ref_name, leads, type_in, target_name}
 use Rattle.lazy_refs.proofs.Finding.{any_at, any_from}
 
@@ -102,3 +102,30 @@ target_is pairs name (Some new) sound is_new only r e = ap (λ (x : Bor (List �
     in_some : TargetRow pairs name.now → new.now ≡ target_name pairs name.now
     in_some (TargetRow.Here k row at named to) = only (type_in row.new) (k, at ∙ ap Some (row_is row (OfType name.now) (OfType (type_in row.new)) named (type_row row.old row.new name.now named (sound.one_form k row at)))) ∙ sym to
     in_some (TargetRow.Nowhere nowhere to) = absurd (nowhere is_new.0 (pair_of (OfType name.now) (OfType new.now)) is_new.1 refl)
+
+-- ---- it is that of the table
+
+pub is_target : (pairs : List Pair) (name : List ℕ) → AreSound pairs → IsTarget pairs name (target_name pairs name)
+is_target pairs name sound = by (target_row pairs name)
+  where
+    by : TargetRow pairs name → IsTarget pairs name (target_name pairs name)
+    by (TargetRow.Here k row at named to) = subst (IsTarget pairs name) (sym to)
+        (IsTarget.paired (type_in row.new) (k, at ∙ ap Some (row_is row (OfType name) (OfType (type_in row.new)) named (type_row row.old row.new name named (sound.one_form k row at)))))
+    by (TargetRow.Nowhere nowhere to) = subst (IsTarget pairs name) (sym to) (IsTarget.unpaired (λ new l. nowhere l.0 (pair_of (OfType name) (OfType new)) l.1 refl))
+
+pub target_once : (pairs : List Pair) (name target : List ℕ) → AreSound pairs → IsTarget pairs name target → target ≡ target_name pairs name
+target_once pairs name _ sound (IsTarget.paired new l) = by (target_row pairs name)
+  where
+    by : TargetRow pairs name → new ≡ target_name pairs name
+    by (TargetRow.Here k row at named to) =
+        let one : l.0 ≡ k = sound.own_old l.0 k (pair_of (OfType name) (OfType new)) row l.1 at (sym named) in
+        let rows : Some (pair_of (OfType name) (OfType new)) ≡ Some row = sym l.1 ∙ ap (slice_get pairs) one ∙ at in
+        let same : pair_of (OfType name) (OfType new) ≡ row = cc in
+        ap (λ (r : Pair). type_in r.new) same ∙ sym to
+    by (TargetRow.Nowhere nowhere to) = absurd (nowhere l.0 (pair_of (OfType name) (OfType new)) l.1 refl)
+target_once pairs name _ sound (IsTarget.unpaired leads_nowhere) = by (target_row pairs name)
+  where
+    by : TargetRow pairs name → name ≡ target_name pairs name
+    by (TargetRow.Here k row at named to) =
+        absurd (leads_nowhere (type_in row.new) (k, at ∙ ap Some (row_is row (OfType name) (OfType (type_in row.new)) named (type_row row.old row.new name named (sound.one_form k row at)))))
+    by (TargetRow.Nowhere nowhere to) = sym to

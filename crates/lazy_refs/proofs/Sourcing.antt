@@ -1,16 +1,20 @@
 -- The sources of the model are those that a plan has, and kinds differ where a plan says so.
-use Rattle.std.proofs.Common.{◌≡◌, ℕ, zero, suc, Bool, true, false, not, ◌&&◌, List, [], ◌∷◌, Option, Some, None, refl, sym, ap, ◌∙◌, subst}
+use Rattle.std.proofs.Common.{◌≡◌, ℕ, zero, suc, Bool, true, false, not, ◌&&◌, List, [], ◌∷◌, map, Option, Some, None, refl, sym, ap, ◌∙◌, subst}
 use Rattle.std.specs.Prelude.{slice_get, option_map}
 use Rattle.std.specs.Str.{bytes_eq}
 use Rattle.std.specs.List.{AllZip, position}
+use Rattle.std.specs.Option.{ForSome}
 use Rattle.std.proofs.lemmas.Bool.{and_parts, and_from, not-true}
+use Rattle.std.proofs.lemmas.Option.{slice_get-map}
 use Rattle.type_desc.specs.declared.desc.Kind.{Kind}
 use Rattle.type_desc.specs.declared.desc.Kind.TheVariants as kinds
 use Rattle.type_desc.specs.declared.desc.Member.{Member}
 use Rattle.type_desc.specs.declared.desc.TypeDesc.{TypeDesc}
+use Rattle.entity_form.specs.Values.{kinds_of}
 use Rattle.refactor_table.specs.Pairs.{AreSound, Leads, pair_of}
 use Rattle.refactor_table.specs.declared.name.Pair.{Pair}
 use Rattle.refactor_table.specs.declared.name.RefName.TheVariants.{OfMember}
+use Rattle.legacy_mapping.specs.Conversion.{Suits}
 use Rattle.legacy_mapping.specs.Faults.{DiffersAt, HaveOneKind}
 use Rattle.legacy_mapping.specs.Sources.{AreSources, HaveOwnNames, IsAlike, IsCarried, IsNamed, IsPaired, IsSource, names_of}
 use Rattle.legacy_mapping.proofs.Plans.{source_within}
@@ -121,7 +125,7 @@ kind_same kinds.Ref = refl
 kind_same kinds.Lazy = refl
 kind_same kinds.Refs = refl
 
-same_kind : (a b : Kind) → is_same_kind a b ≡ true → a ≡ b
+pub same_kind : (a b : Kind) → is_same_kind a b ≡ true → a ≡ b
 same_kind kinds.Int kinds.Int h = refl
 same_kind kinds.Text kinds.Text h = refl
 same_kind kinds.Bytes kinds.Bytes h = refl
@@ -129,12 +133,6 @@ same_kind kinds.Ref kinds.Ref h = refl
 same_kind kinds.Lazy kinds.Lazy h = refl
 same_kind kinds.Refs kinds.Refs h = refl
 same_kind _ _ h = absurd cc
-
-all_kinds_from : (pairs : List Pair) (old new : TypeDesc) (ms : List Member)
-    → ((k : ℕ) (m : Member) → slice_get ms k ≡ Some m → is_of_kind old m.kind (source_of pairs old new m.name) ≡ true) → all_of_kinds pairs old new ms ≡ true
-all_kinds_from pairs old new [] each = refl
-all_kinds_from pairs old new (m ∷ ms) each =
-    and_from (is_of_kind old m.kind (source_of pairs old new m.name)) (all_of_kinds pairs old new ms) (each zero m refl) (all_kinds_from pairs old new ms (λ k. each (suc k)))
 
 kind_from_all : (pairs : List Pair) (old new : TypeDesc) (ms : List Member) → all_of_kinds pairs old new ms ≡ true
     → (k : ℕ) (m : Member) → slice_get ms k ≡ Some m → is_of_kind old m.kind (source_of pairs old new m.name) ≡ true
@@ -148,14 +146,31 @@ kind_from_all pairs old new (n ∷ ms) all (suc k) m at =
 kind_there : (old : TypeDesc) (i : ℕ) (source : Member) → slice_get old.members i ≡ Some source → kind_at old (Some i) ≡ Some source.kind
 kind_there old i source at = ap (option_map (λ (m : Member). m.kind)) at
 
-pub one_kind : (pairs : List Pair) (old new : TypeDesc) → HaveOneKind pairs old new → all_of_kinds pairs old new new.members ≡ true
-one_kind pairs old new agree = all_kinds_from pairs old new new.members (λ k m at. of (source_of pairs old new m.name) k m at (source_is pairs old new m.name))
+-- the first member whose source is of another kind
+record StandsOut (pairs : List Pair) (old new : TypeDesc) (ms : List Member) : Type 0 where
+  pub index : ℕ
+  pub member : Member
+  pub at : slice_get ms index ≡ Some member
+  pub fails : is_of_kind old member.kind (source_of pairs old new member.name) ≡ false
+
+stands_out : (pairs : List Pair) (old new : TypeDesc) (ms : List Member) → all_of_kinds pairs old new ms ≡ false → StandsOut pairs old new ms
+stands_out pairs old new [] e = absurd cc
+stands_out pairs old new (m ∷ ms) e = by (is_of_kind old m.kind (source_of pairs old new m.name)) refl e (stands_out pairs old new ms)
   where
-    fits : (i k : ℕ) (m : Member) → slice_get new.members k ≡ Some m → IsSource pairs old new m.name (Some i) → (found : Option Member) → slice_get old.members i ≡ found
-        → (b : Bool) → is_kind m.kind (option_map (λ (n : Member). n.kind) found) ≡ b → b ≡ true
-    fits i k m at is found there true e = refl
-    fits i k m at is None there false e = absurd (get_missing old.members i (source_within pairs old new m.name i (Some i) is refl) there)
-    fits i k m at is (Some source) there false e = absurd (agree k (record {
+    by : (b : Bool) → is_of_kind old m.kind (source_of pairs old new m.name) ≡ b → (b && all_of_kinds pairs old new ms) ≡ false
+        → (all_of_kinds pairs old new ms ≡ false → StandsOut pairs old new ms) → StandsOut pairs old new (m ∷ ms)
+    by false f e later = record { index = zero; member = m; at = refl; fails = f }
+    by true f e later = let s = later e in record { index = suc s.index; member = s.member; at = s.at; fails = s.fails }
+
+pub differ_somewhere : (pairs : List Pair) (old new : TypeDesc) → all_of_kinds pairs old new new.members ≡ false → (k : ℕ) × DiffersAt pairs old new k
+differ_somewhere pairs old new e =
+    let s = stands_out pairs old new new.members e in
+    (s.index, of s.member s.index s.at (source_of pairs old new s.member.name) (source_is pairs old new s.member.name) s.fails)
+  where
+    at_source : (m : Member) (k i : ℕ) → slice_get new.members k ≡ Some m → IsSource pairs old new m.name (Some i) → (o : Option Member) → slice_get old.members i ≡ o
+        → is_kind m.kind (option_map (λ (n : Member). n.kind) o) ≡ false → DiffersAt pairs old new k
+    at_source m k i at is None there e = absurd (get_missing old.members i (source_within pairs old new m.name i (Some i) is refl) there)
+    at_source m k i at is (Some source) there e = record {
       member = m;
       source = source;
       index = i;
@@ -163,11 +178,18 @@ one_kind pairs old new agree = all_kinds_from pairs old new new.members (λ k m 
       source_is = there;
       is_source = is;
       differs = λ same. let t : is_same_kind m.kind source.kind ≡ true = ap (is_same_kind m.kind) same ∙ kind_same m.kind in cc;
-    }))
+    }
 
-    of : (s : Option ℕ) (k : ℕ) (m : Member) → slice_get new.members k ≡ Some m → IsSource pairs old new m.name s → is_of_kind old m.kind s ≡ true
-    of None k m at is = refl
-    of (Some i) k m at is = fits i k m at is (slice_get old.members i) refl (is_of_kind old m.kind (Some i)) refl
+    of : (m : Member) (k : ℕ) → slice_get new.members k ≡ Some m → (s : Option ℕ) → IsSource pairs old new m.name s → is_of_kind old m.kind s ≡ false → DiffersAt pairs old new k
+    of m k at None is e = absurd cc
+    of m k at (Some i) is e = at_source m k i at is (slice_get old.members i) refl e
+
+pub one_kind : (pairs : List Pair) (old new : TypeDesc) → HaveOneKind pairs old new → all_of_kinds pairs old new new.members ≡ true
+one_kind pairs old new agree = by (all_of_kinds pairs old new new.members) refl
+  where
+    by : (b : Bool) → all_of_kinds pairs old new new.members ≡ b → b ≡ true
+    by true e = refl
+    by false e = let d = differ_somewhere pairs old new e in absurd (agree d.0 d.1)
 
 pub kinds_differ : (pairs : List Pair) (old new : TypeDesc) (k : ℕ) → AreSound pairs → HaveOwnNames old.members → DiffersAt pairs old new k → all_of_kinds pairs old new new.members ≡ false
 kinds_differ pairs old new k sound own d = by (all_of_kinds pairs old new new.members) refl
@@ -180,3 +202,27 @@ kinds_differ pairs old new k sound own d = by (all_of_kinds pairs old new new.me
         let kind : is_kind d.member.kind (kind_at old (Some d.index)) ≡ true = subst (λ (s : Option ℕ). is_of_kind old d.member.kind s ≡ true) one here in
         let same : is_same_kind d.member.kind d.source.kind ≡ true = subst (λ (f : Option Kind). is_kind d.member.kind f ≡ true) (kind_there old d.index d.source d.source_is) kind in
         absurd (d.differs (sym (same_kind d.member.kind d.source.kind same)))
+
+-- a source of the member's kind
+of_kind : (old : TypeDesc) (kind : Kind) (s : Option ℕ) → is_of_kind old kind s ≡ true → ForSome s (λ i. slice_get (kinds_of old) i ≡ Some kind)
+of_kind old kind None h = λ j e. absurd cc
+of_kind old kind (Some i) h = λ j e. let same : i ≡ j = cc in ap (slice_get (kinds_of old)) (sym same) ∙ found (slice_get old.members i) refl h
+  where
+    found : (o : Option Member) → slice_get old.members i ≡ o → is_kind kind (option_map (λ (m : Member). m.kind) o) ≡ true → slice_get (kinds_of old) i ≡ Some kind
+    found None at is = absurd cc
+    found (Some m) at is = slice_get-map (λ (m : Member). m.kind) old.members i ∙ (ap (option_map (λ (m : Member). m.kind)) at ∙ ap Some (sym (same_kind kind m.kind is)))
+
+pub suits_all : (pairs : List Pair) (old new : TypeDesc) (ms : List Member) → all_of_kinds pairs old new ms ≡ true → Suits (kinds_of old) (map (λ (m : Member). m.kind) ms) (sources_of pairs old new ms)
+suits_all pairs old new [] all = tt
+suits_all pairs old new (m ∷ ms) all =
+    let parts = and_parts (is_of_kind old m.kind (source_of pairs old new m.name)) (all_of_kinds pairs old new ms) all in
+    (of_kind old m.kind (source_of pairs old new m.name) parts.0, suits_all pairs old new ms parts.1)
+
+kind_suits : (old : TypeDesc) (kind : Kind) (s : Option ℕ) → ForSome s (λ i. slice_get (kinds_of old) i ≡ Some kind) → is_of_kind old kind s ≡ true
+kind_suits old kind None suits = refl
+kind_suits old kind (Some i) suits = ap (is_kind kind) (sym (slice_get-map (λ (m : Member). m.kind) old.members i) ∙ suits i refl) ∙ kind_same kind
+
+pub all_suit : (pairs : List Pair) (old new : TypeDesc) (ms : List Member) → Suits (kinds_of old) (map (λ (m : Member). m.kind) ms) (sources_of pairs old new ms) → all_of_kinds pairs old new ms ≡ true
+all_suit pairs old new [] suits = refl
+all_suit pairs old new (m ∷ ms) suits =
+    and_from (is_of_kind old m.kind (source_of pairs old new m.name)) (all_of_kinds pairs old new ms) (kind_suits old m.kind (source_of pairs old new m.name) suits.0) (all_suit pairs old new ms suits.1)

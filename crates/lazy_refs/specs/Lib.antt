@@ -3,3 +3,4 @@ pub mod Mappings
 pub mod Walks
 pub mod Steps
 pub mod Advances
+pub mod Tables

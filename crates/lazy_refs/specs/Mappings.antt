@@ -1,5 +1,5 @@
 -- What becomes of the entities of a stored type.
-use Rattle.std.specs.Prelude.{◌≡◌, ℕ, true, false, List, Option, Some, Ok}
+use Rattle.std.specs.Prelude.{◌≡◌, ℕ, true, false, List, Option, Some, Ok, All, IsSomeAnd}
 use Rattle.std.specs.Ordering.{nat_cmp}
 use Rattle.std.specs.Map.{lookup}
 use Rattle.std.specs.BTreeMap.{is_at}
@@ -11,6 +11,7 @@ use Rattle.entity_form.specs.declared.value.Object.{Object}
 use Rattle.entity_form.specs.declared.value.Value.{Value}
 use Rattle.refactor_table.specs.declared.name.Pair.{Pair}
 use Rattle.legacy_mapping.specs.Conversion.{Suits, converted}
+use Rattle.legacy_mapping.specs.Sources.{AreApart}
 use Rattle.session_model.specs.Types.{desc_of, sources_of, all_of_kinds}
 use Rattle.session_model.specs.Loading.{Converted, conversion, converted_from}
 use Rattle.lazy_refs.specs.Forms.{IsObjectOf}
@@ -25,10 +26,10 @@ seen (outcomes.Loaded object) = Converted.Loaded object
 seen outcomes.NoType = Converted.NoType
 seen outcomes.WrongKind = Converted.WrongKind
 
--- the mapping from one type to another: a plan where kinds fit, of the source of each member
+-- the mapping from one type to another: a plan where kinds fit, of the source of each member, no two of them one
 abbrev pub IsMappingBetween : List Pair → TypeDesc → ℕ → TypeDesc → Mapping → Type 0
 IsMappingBetween pairs old new_type new (mappings.Converted id plan) =
-    (id ≡ new_type) × (plan ≡ sources_of pairs old new new.members) × (all_of_kinds pairs old new new.members ≡ true) × Suits (kinds_of old) (kinds_of new) plan
+    (id ≡ new_type) × (plan ≡ sources_of pairs old new new.members) × (all_of_kinds pairs old new new.members ≡ true) × Suits (kinds_of old) (kinds_of new) plan × AreApart plan
 IsMappingBetween pairs old new_type new mappings.NoType = ⊥
 IsMappingBetween pairs old new_type new mappings.WrongKind = all_of_kinds pairs old new new.members ≡ false
 
@@ -37,6 +38,7 @@ pub record IsPlanned (types : List TypeDesc) (pairs : List Pair) (old : TypeDesc
   pub new : TypeDesc
   pub known : desc_of types new_type ≡ Some new
   pub suits : Suits (kinds_of old) (kinds_of new) plan
+  pub apart : AreApart plan
   pub becomes : (entity : Entity) (values : List Value) → values_at (kinds_of old) 0 entity.refs entity.plain ≡ Ok values
       → converted_from types pairs entity (Some old) ≡ Converted.Loaded (record { type_id = new_type; values = converted values (kinds_of new) plan })
 
@@ -62,7 +64,11 @@ AreMappings types pairs kept = (type_id : ℕ) (mapping : Mapping) → mapping_a
 
 -- the object's type is known, and its values are of the type's kinds
 abbrev pub IsTyped : List TypeDesc → Object → Type 0
-IsTyped types object = (desc : TypeDesc) × (desc_of types object.type_id ≡ Some desc) × AreOf (kinds_of desc) object.values
+IsTyped types object = IsSomeAnd (desc_of types object.type_id) (λ desc. AreOf (kinds_of desc) object.values)
+
+-- so it is with each of these
+abbrev pub AreTypedIn : List TypeDesc → List (ℕ × Object) → Type 0
+AreTypedIn types objects = All (λ p. IsTyped types p.1) objects
 
 -- this becomes of every entity that holds the object
 abbrev pub Becomes : List TypeDesc → List Pair → Object → Outcome → Type 0

@@ -131,10 +131,10 @@ impl<'a> Mapper<'a> {
     }
 
     /// What the mapping of its type makes of an object.
-    fn apply(&self, mapping: &Mapping, object: &Object) -> Result<Outcome, NoMemory>
-        requires typed { IsTyped self.now.types.now object.now }
-        requires mapping { IsMappingOf self.now.types.now self.now.table.now object.now.type_id mapping.now }
-        ensures { IfOk result (Becomes self.now.types.now self.now.table.now object.now) }
+    fn apply(&self, mapping: &Mapping, object: Object) -> Result<Outcome, NoMemory>
+        requires typed { IsTyped self.now.types.now object }
+        requires mapping { IsMappingOf self.now.types.now self.now.table.now object.type_id mapping.now }
+        ensures { IfOk result (Becomes self.now.types.now self.now.table.now object) }
     {
         match mapping {
             Mapping::Converted { new_type, plan } => match self.types.by_id(*new_type) {
@@ -150,11 +150,11 @@ impl<'a> Mapper<'a> {
     }
 
     /// What becomes of an object. The mapping of its type is made once, and kept.
-    pub fn convert(&self, kept: &mut Mappings, object: &Object) -> Result<Outcome, NoMemory>
-        requires typed { IsTyped self.now.types.now object.now }
+    pub fn convert(&self, kept: &mut Mappings, object: Object) -> Result<Outcome, NoMemory>
+        requires typed { IsTyped self.now.types.now object }
         requires kept { AreMappings self.now.types.now self.now.table.now kept.old.entries }
         ensures kept { OnOk result (AreMappings self.now.types.now self.now.table.now kept.new.entries) }
-        ensures outcome { IfOk result (Becomes self.now.types.now self.now.table.now object.now) }
+        ensures outcome { IfOk result (Becomes self.now.types.now self.now.table.now object) }
     {
         match self.prepare(kept, object.type_id) {
             Ok(()) => match kept.get(&object.type_id) {

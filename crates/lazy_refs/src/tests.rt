@@ -1,7 +1,7 @@
 //! Examples of loadings.
 
-ghost use Rattle.std.specs.Prelude.{OnOk};
-ghost use Rattle.lazy_refs.specs.Mappings.{AreMappings};
+ghost use Rattle.std.specs.Prelude.{IfOk, IsSome, OnOk};
+ghost use Rattle.lazy_refs.specs.Mappings.{AreMappings, AreTypedIn};
 
 use crate::{LoadStep, Loading};
 use entity_form::{Object, Value};
@@ -16,13 +16,15 @@ use type_dictionary::{Dictionary, RecordFault};
 /// Eight bytes of the number 5.
 const FIVE: [u8; 8] = [5, 0, 0, 0, 0, 0, 0, 0];
 
-/// `Old` is to become `New`, and `Odd` has a member of another kind since.
+/// `Old` is to become `New`, `Odd` has a member of another kind since, and an object of `Both` names two others.
 fn types(alloc: Global) -> Result<Dictionary, RecordFault> {
     let mut types = Dictionary::new(alloc);
     types.add_record(b"16 Old{ref next,int x}")?;
     types.add_record(b"17 New{int y,int x,ref next}")?;
     types.add_record(b"18 Odd{int x}")?;
     types.add_record(b"19 Odd{text x}")?;
+    types.add_record(b"20 Both{ref left,ref right}")?;
+    types.add_record(b"21 Lost{int x}")?;
     Ok(types)
 }
 
@@ -30,6 +32,15 @@ fn types(alloc: Global) -> Result<Dictionary, RecordFault> {
 fn renamed(alloc: Global, old: &str, new: &str) -> Result<RefactorTable, AddFault> {
     let old = RefName::OfType(Text::new(alloc, old)?);
     let new = RefName::OfType(Text::new(alloc, new)?);
+    let mut table = RefactorTable::new(alloc);
+    table.add(old, new)?;
+    Ok(table)
+}
+
+/// One member of a type became another of it.
+fn moved(alloc: Global, name: &str, old: &str, new: &str) -> Result<RefactorTable, AddFault> {
+    let old = RefName::OfMember(Text::new(alloc, name)?, Text::new(alloc, old)?);
+    let new = RefName::OfMember(Text::new(alloc, name)?, Text::new(alloc, new)?);
     let mut table = RefactorTable::new(alloc);
     table.add(old, new)?;
     Ok(table)
@@ -45,30 +56,31 @@ fn entity(alloc: Global, type_id: u64, refs: &[u64], plain: &[u8]) -> Result<Ent
     })
 }
 
-/// Whether the loading, given this entity, asks for this id.
-fn asks(
+/// The id that the loading asks for when it is given this entity.
+fn asked(
     loading: &mut Loading,
     registry: &Registry,
     types: &Dictionary,
     table: &RefactorTable,
     given: Entity,
-    id: u64,
-) -> Result<bool, NoMemory>
-    requires { AreMappings types.now table.now loading.old.mappings }
-    ensures { OnOk result (AreMappings types.now table.now loading.new.mappings) }
+) -> Result<Option<u64>, NoMemory>
+    requires mappings { AreMappings types.now table.now loading.old.mappings }
+    requires typed { AreTypedIn types.now loading.old.loaded }
+    ensures mappings { OnOk result (AreMappings types.now table.now loading.new.mappings) }
+    ensures typed { IfOk result (λ asked. IsSome asked → AreTypedIn types.now loading.new.loaded) }
 {
     match loading.next(registry, types, table, Some(given)) {
-        Ok(LoadStep::Want(wanted)) => Ok(wanted == id),
-        Ok(_) => Ok(false),
+        Ok(LoadStep::Want(id)) => Ok(Some(id)),
+        Ok(_) => Ok(None),
         Err(NoMemory) => Err(NoMemory),
     }
 }
 
-/// Whether the object is one of `New` that names this id, and whose `x` is 5.
-fn is_new(object: &Object, id: u64) -> bool {
+/// Whether the object is one of `New` with these numbers that names this id.
+fn is_new(object: &Object, numbers: (i64, i64), id: u64) -> bool {
     match object.values.as_slice() {
         [Value::Int(y), Value::Int(x), Value::Ref(next)] => {
-            object.type_id == 17 && *y == 0 && *x == 5 && *next == id
+            object.type_id == 17 && *y == numbers.0 && *x == numbers.1 && *next == id
         }
         _ => false,
     }
@@ -78,7 +90,10 @@ fn is_new(object: &Object, id: u64) -> bool {
 fn are_two(all: &[(u64, Object)]) -> bool {
     match all {
         [first, second] => {
-            first.0 == 1024 && second.0 == 1025 && is_new(&first.1, 1025) && is_new(&second.1, 1024)
+            first.0 == 1024
+                && second.0 == 1025
+                && is_new(&first.1, (0, 5), 1025)
+                && is_new(&second.1, (0, 5), 1024)
         }
         _ => false,
     }
@@ -94,10 +109,47 @@ fn loads_two(
     let first = entity(alloc, 16, &[1025], &FIVE)?;
     let second = entity(alloc, 16, &[1024], &FIVE)?;
     let mut loading = Loading::start(alloc, 1024);
-    let asked = asks(&mut loading, registry, types, table, first, 1025)?;
+    let Some(1025) = asked(&mut loading, registry, types, table, first)? else {
+        return Ok(false);
+    };
     match loading.next(registry, types, table, Some(second)) {
-        Ok(LoadStep::Ready(all)) => Ok(asked && are_two(all.as_slice())),
+        Ok(LoadStep::Ready(all)) => Ok(are_two(all.as_slice())),
         Ok(_) => Ok(false),
+        Err(NoMemory) => Err(NoMemory),
+    }
+}
+
+/// 1024 names 1025 and 1026. One of them has no type any more, and the other has a member of another kind.
+fn stored(alloc: Global, id: u64, lost: u64) -> Result<Entity, NoMemory> {
+    if id == 1024 {
+        entity(alloc, 20, &[1025, 1026], &[])
+    } else if id == lost {
+        entity(alloc, 21, &[], &FIVE)
+    } else {
+        entity(alloc, 18, &[], &FIVE)
+    }
+}
+
+/// The last step of the loading of 1024, or `None` where it takes fewer than three.
+fn third_step(
+    alloc: Global,
+    registry: &Registry,
+    types: &Dictionary,
+    table: &RefactorTable,
+    lost: u64,
+) -> Result<Option<LoadStep>, NoMemory> {
+    let mut loading = Loading::start(alloc, 1024);
+    let first = stored(alloc, 1024, lost)?;
+    let Some(id) = asked(&mut loading, registry, types, table, first)? else {
+        return Ok(None);
+    };
+    let second = stored(alloc, id, lost)?;
+    let Some(id) = asked(&mut loading, registry, types, table, second)? else {
+        return Ok(None);
+    };
+    let third = stored(alloc, id, lost)?;
+    match loading.next(registry, types, table, Some(third)) {
+        Ok(step) => Ok(Some(step)),
         Err(NoMemory) => Err(NoMemory),
     }
 }
@@ -153,5 +205,36 @@ fn an_entity_without_its_form_is_broken(rt: HostRuntime) -> Result<(), Fail> {
     let table = RefactorTable::new(rt.alloc());
     let step = step_at_odd(rt.alloc(), &table, &[5])?;
     assert!(rt; matches!(&step, LoadStep::Broken { id: 1024 }));
+    Ok(())
+}
+
+#[test]
+fn the_least_id_decides(rt: HostRuntime) -> Result<(), Fail> {
+    let alloc = rt.alloc();
+    let types = types(alloc)?;
+    let table = renamed(alloc, "Lost", "Gone")?;
+    let registry = Registry::new(alloc)?;
+    let first = third_step(alloc, &registry, &types, &table, 1025)?;
+    assert!(rt; matches!(&first, Some(LoadStep::NoType { id: 1025 })));
+    let second = third_step(alloc, &registry, &types, &table, 1026)?;
+    assert!(rt; matches!(&second, Some(LoadStep::WrongKind { id: 1025 })));
+    Ok(())
+}
+
+#[test]
+fn a_pair_of_one_type_acts_at_every_load(rt: HostRuntime) -> Result<(), Fail> {
+    let alloc = rt.alloc();
+    let types = types(alloc)?;
+    let table = moved(alloc, "New", "x", "y")?;
+    let registry = Registry::new(alloc)?;
+    let plain = [7, 0, 0, 0, 0, 0, 0, 0, 5, 0, 0, 0, 0, 0, 0, 0];
+    let new = entity(alloc, 17, &[0], &plain)?;
+    match step_with(alloc, &registry, &types, &table, new)? {
+        LoadStep::Ready(all) => match all.as_slice() {
+            [only] => assert!(rt; only.0 == 1024 && is_new(&only.1, (5, 0), 0)),
+            _ => assert!(rt; false, "one object is loaded"),
+        },
+        _ => assert!(rt; false, "it is loaded at once"),
+    }
     Ok(())
 }

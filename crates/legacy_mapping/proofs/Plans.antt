@@ -6,13 +6,15 @@ use Rattle.std.specs.Prelude.{slice_get, option_map}
 use Rattle.std.proofs.lemmas.Bool.{cases_lt}
 use Rattle.std.proofs.lemmas.Option.{slice_get-map, slice_get_within}
 use Rattle.entity_form.specs.Values.{kinds_of}
+use Rattle.refactor_table.specs.Pairs.{AreSound}
 use Rattle.refactor_table.specs.declared.name.Pair.{Pair}
 use Rattle.type_desc.specs.declared.desc.Kind.{Kind}
 use Rattle.type_desc.specs.declared.desc.Member.{Member}
 use Rattle.type_desc.specs.declared.desc.TypeDesc.{TypeDesc}
 use Rattle.legacy_mapping.specs.Conversion.{Suits}
 use Rattle.legacy_mapping.specs.Faults.{DiffersAt, IsFirstDiffering}
-use Rattle.legacy_mapping.specs.Sources.{names_of, IsNamed, IsSource, AreSources}
+use Rattle.legacy_mapping.specs.Sources.{names_of, AreApart, HaveOwnNames, IsNamed, IsSource}
+use Rattle.legacy_mapping.proofs.Apartness.{sources_apart}
 use Rattle.legacy_mapping.proofs.Lists.{take-more, all_zip-push, all_zip-unpush}
 use Rattle.legacy_mapping.proofs.PositionLemmas.{is_named, length-names}
 
@@ -21,6 +23,7 @@ pub record IsPlannedBelow (pairs : List Pair) (old new : TypeDesc) (n : ℕ) (so
   pub are_sources : AllZip (IsSource pairs old new) (take n (names_of new.members)) sources
   pub only : (others : List (Option ℕ)) → AllZip (IsSource pairs old new) (take n (names_of new.members)) others → sources ≡ others
   pub suits : Suits (kinds_of old) (take n (kinds_of new)) sources
+  pub apart : AreApart sources
   pub same_kinds : (k : ℕ) → k < n → ¬ (DiffersAt pairs old new k)
 
 -- a source is a member of the old type
@@ -39,6 +42,7 @@ nothing_planned pairs old new = record {
   are_sources = tt;
   only = λ others all. none others all;
   suits = tt;
+  apart = λ k l i at. absurd cc;
   same_kinds = λ k before differs. omega arith;
 }
   where
@@ -47,15 +51,17 @@ nothing_planned pairs old new = record {
     none (o ∷ os) all = absurd all
 
 pub planned_more : (pairs : List Pair) (old new : TypeDesc) (n : ℕ) (sources : List (Option ℕ)) (member : Member) (source : Option ℕ)
-    → IsPlannedBelow pairs old new n sources → slice_get new.members n ≡ Some member
+    → AreSound pairs → HaveOwnNames new.members → IsPlannedBelow pairs old new n sources → slice_get new.members n ≡ Some member
     → IsSource pairs old new member.name source → ((other : Option ℕ) → IsSource pairs old new member.name other → source ≡ other)
     → ForSome source (λ i. slice_get (kinds_of old) i ≡ Some member.kind) → IsPlannedBelow pairs old new (n + 1) (sources ++ source ∷ [])
-planned_more pairs old new n sources member source below at is only kind =
+planned_more pairs old new n sources member source sound own below at is only kind =
     let R = IsSource pairs old new in
     let names = take-more (names_of new.members) n member.name (is_named new.members n member at) in
     let kinds = take-more (kinds_of new) n member.kind (of_kind new.members n member at) in
+    let all : AllZip R (take (n + 1) (names_of new.members)) (sources ++ source ∷ []) = rw names (all_zip-push R (take n (names_of new.members)) sources member.name source below.are_sources is) in
     record {
-      are_sources = rw names (all_zip-push R (take n (names_of new.members)) sources member.name source below.are_sources is);
+      are_sources = all;
+      apart = sources_apart pairs old new (n + 1) (sources ++ source ∷ []) sound own all;
       only = λ others all.
           let u = all_zip-unpush R (take n (names_of new.members)) member.name others (rw names at all) in
           let front : sources ≡ u.front = below.only u.front u.all in

@@ -50,3 +50,7 @@ pub data IsSource (pairs : List Pair) (old new : TypeDesc) (name : List ℕ) : O
 -- the sources of all members of the new type, in order
 abbrev pub AreSources : List Pair → TypeDesc → TypeDesc → List (Option ℕ) → Type 0
 AreSources pairs old new sources = AllZip (IsSource pairs old new) (names_of new.members) sources
+
+-- no two members have one source
+abbrev pub AreApart : List (Option ℕ) → Type 0
+AreApart sources = (k l i : ℕ) → slice_get sources k ≡ Some (Some i) → slice_get sources l ≡ Some (Some i) → k ≡ l

@@ -5,7 +5,7 @@ ghost use Rattle.std.specs.Option.{ForSome};
 ghost use Rattle.entity_form.specs.Values.{kinds_of};
 ghost use Rattle.legacy_mapping.specs.Conversion.{Suits};
 ghost use Rattle.legacy_mapping.specs.Faults.{HaveOneKind, StandsAgainst};
-ghost use Rattle.legacy_mapping.specs.Sources.{AreSources, HaveOwnNames};
+ghost use Rattle.legacy_mapping.specs.Sources.{AreApart, AreSources, HaveOwnNames};
 ghost use Rattle.type_desc.specs.declared.desc.Member.{Member as AnyMember};
 
 use crate::fault::PlanFault;
@@ -42,6 +42,7 @@ pub fn plan(
     // Each source has its member's kind.
     ensures one_kind { OnOk result (HaveOneKind table.now old.now new.now) }
     ensures suits { IfOk result (Suits (kinds_of old.now) (kinds_of new.now)) }
+    ensures apart { IfOk result AreApart }
     ensures fault { IfErr result (StandsAgainst table.now old.now new.now) }
 {
     let search = Search::new(alloc, old, new, table)?;

@@ -3,6 +3,7 @@
 ghost use Rattle.std.specs.Prelude.{◌≡◌, ◌↔◌, ℕ, Option, Some, IfOk, IfSome, IsTrue};
 ghost use Rattle.legacy_mapping.specs.Positions.{ArePositions};
 ghost use Rattle.legacy_mapping.specs.Sources.{HaveOwnNames, IsAlike, IsCarried, IsPaired, IsSource};
+ghost use Rattle.refactor_table.specs.Pairs.{AreSound};
 
 use crate::positions::positions;
 use refactor_table::RefactorTable;
@@ -48,6 +49,7 @@ impl<'a> Search<'a> {
     fn paired(&self, name: &Text) -> Option<usize>
         ensures found { IfSome result (IsPaired self.now.table.now self.now.from.now self.now.to.now name.now) }
         ensures only { (i : ℕ) → IsPaired self.now.table.now self.now.from.now self.now.to.now name.now i → result ≡ Some i }
+        ensures sound { AreSound self.now.table.now }
     {
         let (old_type, from) = self.table.old_member(&self.to.name, name)?;
         if !old_type.is_same(&self.from.name) {
@@ -84,6 +86,7 @@ impl<'a> Search<'a> {
     pub fn source(&self, name: &Text) -> Option<usize>
         ensures is { IsSource self.now.table.now self.now.from.now self.now.to.now name.now result }
         ensures only { (source : Option ℕ) → IsSource self.now.table.now self.now.from.now self.now.to.now name.now source → result ≡ source }
+        ensures sound { AreSound self.now.table.now }
     {
         match self.paired(name) {
             Some(i) => Some(i),

@@ -77,7 +77,7 @@ fn outcome(alloc: Global, case: &Case) -> Result<Option<(Plan, Object)>, Fail> {
         type_id: 16,
         values: Values::new(values),
     };
-    let converted = convert(alloc, &object, 17, &new, &plan)?;
+    let converted = convert(alloc, object, 17, &new, &plan)?;
     Ok(Some((plan, converted)))
 }
 

@@ -124,6 +124,7 @@ impl RefactorTable {
     pub fn old_member(&self, new_type: &Text, new_member: &Text) -> Option<(&Text, &Text)>
         ensures found { IfSome result (λ old. Leads self.now (OfMember old.0.now old.1.now) (OfMember new_type.now new_member.now)) }
         ensures only { (t m : List ℕ) → Leads self.now (OfMember t m) (OfMember new_type.now new_member.now) → IsSomeAnd result (λ old. (old.0.now ≡ t) × (old.1.now ≡ m)) }
+        ensures sound { AreSound self.now }
     {
         let row = self.by_new.member_row(new_type, new_member)?;
         let pair = &self.rows[row];

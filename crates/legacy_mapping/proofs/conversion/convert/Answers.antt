@@ -8,5 +8,5 @@ use Rattle.legacy_mapping.proofs.conversion.convert.Goals as goal
 
 pub returns-clause-kinds : goal.returns-clause-kinds
 returns-clause-kinds c =
-    let are : c.in_ok-values.values ≡ converted c.args.object.now.values (kinds_of c.args.new.now) c.args.plan.now = search rules in
-    rw are (kinds-converted c.args.object.now.values (kinds_of c.args.new.now) c.args.plan.now c.requires)
+    let are : c.in_ok-values.values ≡ converted c.args.object.values (kinds_of c.args.new.now) c.args.plan.now = search rules in
+    rw are (kinds-converted c.args.object.values (kinds_of c.args.new.now) c.args.plan.now c.requires.suits)

@@ -1,11 +1,11 @@
 -- Each source is found, has its member's kind, and is planned.
-use Rattle.std.proofs.Common.{◌≡◌, ◌<◌, ◌++◌, ◌∷◌, [], List, Option, Some, ℕ, length, take, sym, ap, ◌∙◌, refl, rules, arith}
+use Rattle.std.proofs.Common.{◌≡◌, ◌<◌, ◌++◌, ◌∷◌, [], List, Option, Some, ℕ, length, take, sym, ap, subst, ◌∙◌, refl, rules, arith}
 use Rattle.std.specs.Prelude.{slice_get}
 use Rattle.std.proofs.lemmas.List.{take_all}
 use Rattle.std.proofs.lemmas.Option.{slice_get_read, slice_get_within}
 use Rattle.entity_form.specs.Values.{kinds_of}
 use Rattle.type_desc.specs.declared.desc.Member.{Member}
-use Rattle.legacy_mapping.specs.Sources.{IsSource, names_of}
+use Rattle.legacy_mapping.specs.Sources.{AreApart, IsSource, names_of}
 use Rattle.legacy_mapping.proofs.PositionLemmas.{length-names}
 use Rattle.legacy_mapping.proofs.Plans.{planned_more, first_differing, source_within}
 use Rattle.legacy_mapping.proofs.planning.plan.Goals as goal
@@ -33,7 +33,8 @@ loop-k-preserved c =
     let at : slice_get c.args.new.now.members c.loop-k.k ≡ Some member =
     rw c.as_slice-new_members.ensures at (slice_get_read c.as_slice-new_members.result.now (length c.as_slice-new_members.result.now) c.loop-k.k member refl c.loop-k-test.true c.index-new_members-k.is) in
     let kind = rw c.as_slice-old_members.ensures at (c.has_kind.ensures.same c.if-not-has_kind.false) in
-    let more = planned_more c.args.table.now c.args.old.now c.args.new.now c.loop-k.k c.loop-k.sources.items member c.source-source.result c.loop-k.invariant at is only kind in
+    let sound = rw c.in_ok-search.ensures.table at c.source-source.ensures.sound in
+    let more = planned_more c.args.table.now c.args.old.now c.args.new.now c.loop-k.k c.loop-k.sources.items member c.source-source.result sound c.requires.new_names c.loop-k.invariant at is only kind in
     let items : c.push.new.self.items ≡ c.loop-k.sources.items ++ c.source-source.result ∷ [] = search rules in
     rw items more
 
@@ -48,3 +49,6 @@ returns-clause-one_kind c = λ k differs.
     let within = slice_get_within c.args.new.now.members k differs.member differs.member_is in
     let all = rw c.as_slice-new_members.ensures at c.loop-k-test.false in
     c.loop-k.invariant.same_kinds k (omega arith) differs
+
+pub returns-clause-apart : goal.returns-clause-apart
+returns-clause-apart c = subst AreApart (sym c.new-2.ensures) c.loop-k.invariant.apart

@@ -8,7 +8,7 @@ returns-in-Ok c =
     let pairs = c.args.self.now.table.now in
     let old = c.args.old.now in
     let new = c.args.new.now in
-    (refl, c.in-Ok.ensures.only (sources_of pairs old new new.members) (are_sources pairs old new), one_kind pairs old new c.in-Ok.ensures.one_kind, c.in-Ok.ensures.suits)
+    (refl, c.in-Ok.ensures.only (sources_of pairs old new new.members) (are_sources pairs old new), one_kind pairs old new c.in-Ok.ensures.one_kind, c.in-Ok.ensures.suits, c.in-Ok.ensures.apart)
 
 pub returns-in-Err-KindDiffers : goal.returns-in-Err-KindDiffers
 returns-in-Err-KindDiffers c =

@@ -2,12 +2,12 @@
 use Rattle.std.proofs.Common.{◌≡◌, Some, None, sym, ap, subst, List, rules, arith}
 use Rattle.refactor_table.specs.Index.{row_of}
 use Rattle.refactor_table.specs.Names.{AreOfOneForm}
-use Rattle.refactor_table.specs.Pairs.{Leads, pair_of}
+use Rattle.refactor_table.specs.Pairs.{AreSound, Leads, pair_of}
 use Rattle.refactor_table.specs.declared.name.Pair.{Pair}
 use Rattle.refactor_table.specs.declared.name.RefName.{RefName}
 use Rattle.refactor_table.specs.declared.name.RefName.TheVariants.{OfType, OfMember}
 use Rattle.refactor_table.proofs.Indexes.{member-injective}
-use Rattle.refactor_table.proofs.Rows.{row_within, row_read, row_named, row_of_pair, no_pair, leads_at}
+use Rattle.refactor_table.proofs.Rows.{row_within, row_read, row_named, row_of_pair, no_pair, leads_at, sound}
 use Rattle.refactor_table.proofs.table.RefactorTable.old_member.Goals as goal
 
 pub returns-in_err-row-clause-only : goal.returns-in_err-row-clause-only
@@ -45,3 +45,9 @@ returns-clause-only c = λ t m leads.
     let same : c.index-pair.result.now ≡ pair_of (OfMember t m) (OfMember c.args.new_type.now c.args.new_member.now) =
     row_of_pair (λ p. p.new) c.self.inside.rows.items c.self.inside.by_new c.self.invariant.new_rows (OfMember t m) (OfMember c.args.new_type.now c.args.new_member.now) c.in_ok-row.row c.index-pair.result.now inside found at in
     member-injective _ _ t m c.index-pair.result.now.old c.in-OfMember.is (ap (λ (p : Pair). p.old) same)
+
+pub returns-in_err-row-clause-sound : goal.returns-in_err-row-clause-sound
+returns-in_err-row-clause-sound c = subst AreSound c.self.view_is (sound c.self.inside.rows.items c.self.inside.by_old c.self.inside.by_new c.self.invariant)
+
+pub returns-clause-sound : goal.returns-clause-sound
+returns-clause-sound c = subst AreSound c.self.view_is (sound c.self.inside.rows.items c.self.inside.by_old c.self.inside.by_new c.self.invariant)
