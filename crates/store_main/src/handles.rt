@@ -4,7 +4,7 @@ use std::collections::BTreeMap;
 use std::fs::{File, OpenOptions};
 use std::io::ErrorKind;
 use std::os::unix::fs::FileExt;
-use std::path::Path;
+use std::path::{Path, PathBuf};
 use std::{fs, io};
 
 /// The files of a folder, each opened once and kept open. One that is not there reads as empty.
@@ -16,7 +16,8 @@ pub struct Handles {
     /// The folder itself, for its sync.
     folder: File,
     open: BTreeMap<u32, File>,
-    /// Whether a file was made or removed since the folder was last synced.
+    /// Whether a file may have been made or removed since the folder was last synced, by this process
+    /// or by one before that was stopped.
     changed: bool,
 }
 
@@ -28,20 +29,31 @@ fn parent_of(path: &str) -> Path<'_> {
     }
 }
 
-/// Makes the folder where it is missing, so that a stop leaves it.
-fn make_folder(rt: HostRuntime, path: &str) -> io::Result<()> {
-    if fs::exists(&rt, path)? {
-        return Ok(());
-    }
-    fs::create_dir_all(&rt, path)?;
+/// Syncs the folder in which this path is.
+fn sync_around(rt: HostRuntime, path: &str) -> io::Result<()> {
     File::open(&rt, parent_of(path))?.sync_all()
 }
 
+/// Makes the folders on the path that are missing, from the outermost to the innermost. Each is synced
+/// into the one around it before the next is made.
+fn make_folders(rt: HostRuntime, alloc: Global, dir: &str) -> io::Result<()> {
+    let mut path = PathBuf::new(alloc);
+    for part in Path::new(dir).components() {
+        path.push(part)?;
+        if !fs::exists(&rt, path.as_str())? {
+            fs::create_dir(&rt, path.as_str())?;
+            sync_around(rt, path.as_str())?;
+        }
+    }
+    Ok(())
+}
+
 impl Handles {
-    /// The folder and the one in which it is are made where they are missing.
+    /// The folder is made where it is missing, and so is each one around it.
     pub fn open(rt: HostRuntime, alloc: Global, dir: &str) -> io::Result<Handles> {
-        make_folder(rt, parent_of(dir).as_str())?;
-        make_folder(rt, dir)?;
+        make_folders(rt, alloc, dir)?;
+        // A process before may have made the folder and been stopped before its sync.
+        sync_around(rt, dir)?;
         let folder = File::open(&rt, dir)?;
         Ok(Handles {
             rt,
@@ -49,7 +61,7 @@ impl Handles {
             dir: String::from_str(alloc, dir)?,
             folder,
             open: BTreeMap::new(alloc),
-            changed: false,
+            changed: true,
         })
     }
 
@@ -150,7 +162,7 @@ impl Handles {
         }
     }
 
-    /// Syncs the file, and the folder where a file was made or removed in it.
+    /// Syncs the file, and before it the folder where a file may have been made or removed in it.
     pub fn sync(&mut self, file: u32) -> io::Result<()> {
         let _ = self.find(file)?;
         self.sync_folder()?;
