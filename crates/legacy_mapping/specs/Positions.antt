@@ -5,7 +5,7 @@ use Rattle.std.specs.Cmp.Lexicographic.{slice_cmp}
 use Rattle.std.specs.Ordering.{nat_cmp}
 use Rattle.std.specs.BTreeMap.{BTreeMap, get_by}
 use Rattle.type_desc.specs.declared.desc.Member.{Member}
-use Rattle.legacy_mapping.specs.Sources.{IsNamed}
+use Rattle.type_desc.specs.OwnNames.{IsNamed}
 
 -- the index that the positions give for a name
 abbrev pub position_of : BTreeMap (Bor (List ℕ)) ℕ → List ℕ → Option ℕ

@@ -1,8 +1,8 @@
 -- Where the value of each member of a type comes from, when an object of an older type becomes one of it.
-use Rattle.std.specs.Prelude.{◌≡◌, ℕ, List, map, Option, Some, None, slice_get, ◌⊎◌}
+use Rattle.std.specs.Prelude.{ℕ, List, Option, Some, None}
 use Rattle.std.specs.List.{AllZip}
-use Rattle.type_desc.specs.declared.desc.Member.{Member}
 use Rattle.type_desc.specs.declared.desc.TypeDesc.{TypeDesc}
+pub use Rattle.type_desc.specs.OwnNames.{names_of, IsNamed, HaveOwnNames}
 use Rattle.refactor_table.specs.Pairs.{Leads}
 use Rattle.refactor_table.specs.declared.name.Pair.{Pair}
 use Rattle.refactor_table.specs.declared.name.RefName.TheVariants.{OfType, OfMember}
@@ -11,18 +11,6 @@ use Rattle.refactor_table.specs.declared.name.RefName.TheVariants.{OfType, OfMem
 pub data IsTarget (pairs : List Pair) (name : List ℕ) : List ℕ → Type 0 where
   paired : (new : List ℕ) → Leads pairs (OfType name) (OfType new) → IsTarget pairs name new
   unpaired : ((new : List ℕ) → ¬ (Leads pairs (OfType name) (OfType new))) → IsTarget pairs name name
-
--- the names of members, in order
-abbrev pub names_of : List Member → List (List ℕ)
-names_of members = map (λ (m : Member). m.name) members
-
--- the member with this index has this name
-abbrev pub IsNamed : List Member → ℕ → List ℕ → Type 0
-IsNamed members i name = slice_get (names_of members) i ≡ Some name
-
--- no two members have one name
-abbrev pub HaveOwnNames : List Member → Type 0
-HaveOwnNames members = (i j : ℕ) (name : List ℕ) → IsNamed members i name → IsNamed members j name → i ≡ j
 
 -- an explicit pair carries a member of the old type to one of the new type
 abbrev pub Carries : List Pair → TypeDesc → TypeDesc → List ℕ → List ℕ → Type 0

@@ -7,7 +7,8 @@ use Rattle.std.specs.Map.{update}
 use Rattle.std.specs.Str.{bytes_eq}
 use Rattle.std.specs.declared.alloc.Global.{Global}
 use Rattle.std.proofs.lemmas.Slice.Eq.{bytes_eq-Decides}
-use Rattle.refactor_table.specs.Index.{MemberRows, member_row, row_of, PutsMember, IsSameMembers, same_name, PutsRow, IsSameIndex, IsIndexOf}
+use Rattle.refactor_table.specs.Names.{same_name}
+use Rattle.refactor_table.specs.Index.{MemberRows, member_row, row_of, PutsMember, IsSameMembers, PutsRow, IsSameIndex, IsIndexOf}
 use Rattle.refactor_table.specs.declared.index.NameIndex.{NameIndex}
 use Rattle.refactor_table.specs.declared.name.RefName.{RefName}
 use Rattle.refactor_table.specs.declared.name.RefName.TheVariants.{OfType, OfMember}

@@ -1,8 +1,9 @@
 -- What an index of names says.
-use Rattle.std.specs.Prelude.{◌≡◌, ℕ, List, String, Bool, false, ◌&&◌, Option, Some, option_and_then, slice_get, if◌then◌else◌}
+use Rattle.std.specs.Prelude.{◌≡◌, ℕ, List, String, ◌&&◌, Option, Some, option_and_then, slice_get, if◌then◌else◌}
 use Rattle.std.specs.Str.{bytes_eq}
 use Rattle.std.specs.BTreeMap.{BTreeMap, get_by_text}
 use Rattle.std.specs.declared.alloc.Global.{Global}
+use Rattle.refactor_table.specs.Names.{same_name}
 use Rattle.refactor_table.specs.declared.index.NameIndex.{NameIndex}
 use Rattle.refactor_table.specs.declared.name.RefName.{RefName}
 use Rattle.refactor_table.specs.declared.name.RefName.TheVariants.{OfType, OfMember}
@@ -26,13 +27,6 @@ PutsMember old new type_name member row =
 
 abbrev pub IsSameMembers : MemberRows → MemberRows → Type 0
 IsSameMembers old new = (t m : List ℕ) → member_row new t m ≡ member_row old t m
-
--- two names are one
-abbrev pub same_name : RefName → RefName → Bool
-same_name (OfType t) (OfType u) = bytes_eq t u
-same_name (OfType t) (OfMember u n) = false
-same_name (OfMember t m) (OfType u) = false
-same_name (OfMember t m) (OfMember u n) = bytes_eq t u && bytes_eq m n
 
 -- a name has this row, and all others have theirs
 abbrev pub PutsRow : NameIndex → NameIndex → RefName → Option ℕ → Type 0

@@ -1,5 +1,6 @@
 -- The names of types and of members, and the one text of each.
-use Rattle.std.specs.Prelude.{ℕ, List, ◌∷◌, ◌++◌}
+use Rattle.std.specs.Prelude.{ℕ, List, ◌∷◌, ◌++◌, Bool, false, ◌&&◌}
+use Rattle.std.specs.Str.{bytes_eq}
 use Rattle.type_desc.specs.Grammar.{IsName}
 use Rattle.type_desc.specs.declared.desc.NameKind.TheVariants as kinds
 use Rattle.refactor_table.specs.declared.name.RefName.{RefName}
@@ -21,3 +22,10 @@ AreOfOneForm (OfType t) (OfType u) = Unit {0}
 AreOfOneForm (OfType t) (OfMember u n) = ⊥
 AreOfOneForm (OfMember t m) (OfType u) = ⊥
 AreOfOneForm (OfMember t m) (OfMember u n) = Unit {0}
+
+-- two names are one
+abbrev pub same_name : RefName → RefName → Bool
+same_name (OfType t) (OfType u) = bytes_eq t u
+same_name (OfType t) (OfMember u n) = false
+same_name (OfMember t m) (OfType u) = false
+same_name (OfMember t m) (OfMember u n) = bytes_eq t u && bytes_eq m n

@@ -13,6 +13,8 @@ use Rattle.type_desc.specs.declared.desc.Kind.{Kind}
 use Rattle.type_desc.specs.declared.desc.Kind.TheVariants as kinds
 use Rattle.type_desc.specs.declared.desc.Member.{Member}
 use Rattle.type_desc.specs.declared.desc.TypeDesc.{TypeDesc}
+use Rattle.type_desc.specs.Root.{root_desc}
+use Rattle.type_dictionary.specs.Latest.{desc_of, latest_from, latest_of}
 use Rattle.entity_form.specs.Reading.{values_at}
 use Rattle.entity_form.specs.Values.{AreOf, IsHeld, default_of, kind_of, kinds_of, refs_of}
 use Rattle.entity_form.proofs.DefaultKinds.{kinds_of-defaults}
@@ -23,8 +25,10 @@ use Rattle.entity_form.specs.declared.value.Value.TheVariants.{Int, Text, Bytes,
 use Rattle.refactor_table.specs.declared.name.Pair.{Pair}
 use Rattle.refactor_table.specs.declared.name.RefName.{RefName}
 use Rattle.refactor_table.specs.declared.name.RefName.TheVariants.{OfType, OfMember}
-use Rattle.session_model.specs.Types.{all_of_kinds, desc_at, desc_of, is_kind, is_of_kind, is_root_type, is_same_kind, is_same_ref_name, latest_from, latest_id, root_type, source_of, sources_of, target_name, type_in}
-use Rattle.session_model.specs.Loading.{Loaded, WrongKind, conversion, converted, converted_from, converted_if, converted_to, value_from, values_in}
+use Rattle.refactor_table.specs.Names.{same_name}
+use Rattle.legacy_mapping.specs.Conversion.{converted, value_from}
+use Rattle.session_model.specs.Types.{all_of_kinds, desc_at, is_kind, is_of_kind, is_root_type, is_same_kind, source_of, sources_of, target_name, type_in}
+use Rattle.session_model.specs.Loading.{Loaded, WrongKind, conversion, converted_from, converted_if, converted_to, values_in}
 use Rattle.session_model.specs.Sound.{AreTypes, HasForm, IsProper, spares_root}
 use Rattle.session_model.proofs.Declaring.{latest_recorded}
 use Rattle.session_model.proofs.IdLists.{sifts}
@@ -114,26 +118,26 @@ spared p pairs all =
     let u = or_parts (is_root_type (type_in p.old)) (is_root_type (type_in p.new)) (not-true (is_root_type (type_in p.old) || is_root_type (type_in p.new)) t.0) in
     (u.0, u.1, t.1)
 
-type_named : (ref : RefName) (name : List ℕ) → is_same_ref_name ref (OfType name) ≡ true → type_in ref ≡ name
+type_named : (ref : RefName) (name : List ℕ) → same_name ref (OfType name) ≡ true → type_in ref ≡ name
 type_named (OfType t) name e = (bytes_eq-Decides t name).0 e
 type_named (OfMember t m) name e = absurd cc
 
 -- no pair leads from the root's type
 root_target_name : (pairs : List Pair) (name : List ℕ) → list_all spares_root pairs ≡ true → is_root_type name ≡ true → target_name pairs name ≡ name
 root_target_name [] name all root = refl
-root_target_name (p ∷ pairs) name all root = by (is_same_ref_name p.old (OfType name)) refl (root_target_name pairs name t.2 root)
+root_target_name (p ∷ pairs) name all root = by (same_name p.old (OfType name)) refl (root_target_name pairs name t.2 root)
   where
     t : (is_root_type (type_in p.old) ≡ false) × (is_root_type (type_in p.new) ≡ false) × (list_all spares_root pairs ≡ true)
     t = spared p pairs all
 
-    by : (b : Bool) → is_same_ref_name p.old (OfType name) ≡ b → target_name pairs name ≡ name → cond b (type_in p.new) (target_name pairs name) ≡ name
+    by : (b : Bool) → same_name p.old (OfType name) ≡ b → target_name pairs name ≡ name → cond b (type_in p.new) (target_name pairs name) ≡ name
     by true e later = let same : is_root_type (type_in p.old) ≡ true = ap is_root_type (type_named p.old name e) ∙ root in let no = t.0 in absurd cc
     by false e later = later
 
 -- and none to it
 other_target_name : (pairs : List Pair) (name : List ℕ) → list_all spares_root pairs ≡ true → is_root_type name ≡ false → is_root_type (target_name pairs name) ≡ false
 other_target_name [] name all other = other
-other_target_name (p ∷ pairs) name all other = by (is_same_ref_name p.old (OfType name)) (other_target_name pairs name t.2 other)
+other_target_name (p ∷ pairs) name all other = by (same_name p.old (OfType name)) (other_target_name pairs name t.2 other)
   where
     t : (is_root_type (type_in p.old) ≡ false) × (is_root_type (type_in p.new) ≡ false) × (list_all spares_root pairs ≡ true)
     t = spared p pairs all
@@ -144,7 +148,7 @@ other_target_name (p ∷ pairs) name all other = by (is_same_ref_name p.old (OfT
 
 -- a recorded type has another name than the root's
 recorded_is_other : (types : List TypeDesc) (id : ℕ) (desc : TypeDesc) → AreTypes types → nat_eq id 1 ≡ false → desc_of types id ≡ Some desc → is_root_type desc.name ≡ false
-recorded_is_other types id desc are other known = by (nat_le 16 id) (sym (ap (λ (b : Bool). cond b (Some root_type) (cond (nat_le 16 id) (slice_get types (id - 16)) None)) other) ∙ known)
+recorded_is_other types id desc are other known = by (nat_le 16 id) (sym (ap (λ (b : Bool). cond b (Some root_desc) (cond (nat_le 16 id) (slice_get types (id - 16)) None)) other) ∙ known)
   where
     by : (b : Bool) → cond b (slice_get types (id - 16)) None ≡ Some desc → is_root_type desc.name ≡ false
     by true e = (are.each (id - 16) desc e).not_root
@@ -152,17 +156,17 @@ recorded_is_other types id desc are other known = by (nat_le 16 id) (sym (ap (λ
 
 -- the root's objects stay of the root's type, and no other becomes one
 target_type : (types : List TypeDesc) (pairs : List Pair) (old_id : ℕ) (old : TypeDesc) (id : ℕ) → AreTypes types → list_all spares_root pairs ≡ true
-    → desc_of types old_id ≡ Some old → latest_id types (target_name pairs old.name) ≡ Some id → nat_eq id 1 ≡ nat_eq old_id 1
+    → desc_of types old_id ≡ Some old → latest_of types (target_name pairs old.name) ≡ Some id → nat_eq id 1 ≡ nat_eq old_id 1
 target_type types pairs old_id old id are spares known latest = by (nat_eq old_id 1) refl
   where
     by : (b : Bool) → nat_eq old_id 1 ≡ b → nat_eq id 1 ≡ b
     by true e =
-        let is : desc_of types old_id ≡ Some root_type = ap (λ (b : Bool). cond b (Some root_type) (cond (nat_le 16 old_id) (slice_get types (old_id - 16)) None)) e in
-        let same : old ≡ root_type = cc in
+        let is : desc_of types old_id ≡ Some root_desc = ap (λ (b : Bool). cond b (Some root_desc) (cond (nat_le 16 old_id) (slice_get types (old_id - 16)) None)) e in
+        let same : old ≡ root_desc = cc in
         let root : is_root_type old.name ≡ true = ap (λ (d : TypeDesc). is_root_type d.name) same in
         let kept : target_name pairs old.name ≡ old.name = root_target_name pairs old.name spares root in
-        let first : latest_id types old.name ≡ Some 1 = ap (λ (b : Bool). cond b (Some 1) (latest_from 16 types old.name)) root in
-        let at : latest_id types old.name ≡ Some id = sym (ap (latest_id types) kept) ∙ latest in
+        let first : latest_of types old.name ≡ Some 1 = ap (λ (b : Bool). cond b (Some 1) (latest_from 16 types old.name)) root in
+        let at : latest_of types old.name ≡ Some id = sym (ap (latest_of types) kept) ∙ latest in
         let one : id ≡ 1 = cc in ap (λ (n : ℕ). nat_eq n 1) one
     by false e =
         let other = other_target_name pairs old.name spares (recorded_is_other types old_id old are e known) in
@@ -183,7 +187,7 @@ same_object : (a b : Object) → Loaded a ≡ Loaded b → a ≡ b
 same_object a b e = cc
 
 entity_converted : (types : List TypeDesc) (pairs : List Pair) (x : ℕ) (entity : Entity) (object : Object) → AreTypes types → list_all spares_root pairs ≡ true → (form : HasForm types x entity)
-    → (id : ℕ) (new : TypeDesc) → latest_id types (target_name pairs form.desc.name) ≡ Some id → desc_of types id ≡ Some new
+    → (id : ℕ) (new : TypeDesc) → latest_of types (target_name pairs form.desc.name) ≡ Some id → desc_of types id ≡ Some new
     → converted_to pairs entity form.desc id new ≡ Loaded object → IsConverted types x entity object
 entity_converted types pairs x entity object are spares form id new latest known is = by (all_of_kinds pairs old new new.members) refl is
   where
@@ -225,13 +229,13 @@ entity_converted types pairs x entity object are spares form id new latest known
 pub conversion_right : (types : List TypeDesc) (pairs : List Pair) (x : ℕ) (entity : Entity) (object : Object) → AreTypes types → list_all spares_root pairs ≡ true → HasForm types x entity
     → conversion types pairs entity ≡ Loaded object → IsConverted types x entity object
 conversion_right types pairs x entity object are spares form is =
-    by (latest_id types (target_name pairs form.desc.name)) refl (sym (ap (converted_from types pairs entity) form.known) ∙ is)
+    by (latest_of types (target_name pairs form.desc.name)) refl (sym (ap (converted_from types pairs entity) form.known) ∙ is)
   where
-    of_desc : (id : ℕ) (o : Option TypeDesc) → latest_id types (target_name pairs form.desc.name) ≡ Some id → desc_of types id ≡ o → converted_if pairs entity form.desc (Some id) o ≡ Loaded object → IsConverted types x entity object
+    of_desc : (id : ℕ) (o : Option TypeDesc) → latest_of types (target_name pairs form.desc.name) ≡ Some id → desc_of types id ≡ o → converted_if pairs entity form.desc (Some id) o ≡ Loaded object → IsConverted types x entity object
     of_desc id None latest known e = absurd cc
     of_desc id (Some new) latest known e = entity_converted types pairs x entity object are spares form id new latest known e
 
-    by : (o : Option ℕ) → latest_id types (target_name pairs form.desc.name) ≡ o
-        → converted_if pairs entity form.desc (latest_id types (target_name pairs form.desc.name)) (desc_at types (latest_id types (target_name pairs form.desc.name))) ≡ Loaded object → IsConverted types x entity object
+    by : (o : Option ℕ) → latest_of types (target_name pairs form.desc.name) ≡ o
+        → converted_if pairs entity form.desc (latest_of types (target_name pairs form.desc.name)) (desc_at types (latest_of types (target_name pairs form.desc.name))) ≡ Loaded object → IsConverted types x entity object
     by None latest e = let none : converted_if pairs entity form.desc None None ≡ Loaded object = sym (ap (λ (o : Option ℕ). converted_if pairs entity form.desc o (desc_at types o)) latest) ∙ e in absurd cc
     by (Some id) latest e = of_desc id (desc_of types id) latest refl (sym (ap (λ (o : Option ℕ). converted_if pairs entity form.desc o (desc_at types o)) latest) ∙ e)

@@ -4,12 +4,15 @@ use Rattle.std.specs.Prelude.{nat_eq, nat_le}
 use Rattle.std.specs.List.{list_any}
 use Rattle.std.specs.Str.{bytes_eq}
 use Rattle.std.proofs.lemmas.Bool.{le-leb, leb-false, ne_eqb, not_from_false}
+use Rattle.std.specs.Option.{option_or}
 use Rattle.type_desc.specs.Grammar.{IsDesc}
+use Rattle.type_desc.specs.Root.{root_desc}
 use Rattle.type_desc.specs.declared.desc.TypeDesc.{TypeDesc}
+use Rattle.type_dictionary.specs.Latest.{desc_of, latest_from, latest_of}
 use Rattle.refactor_table.specs.declared.name.Pair.{Pair}
 use Rattle.refactor_table.specs.declared.name.RefName.{RefName}
-use Rattle.session_model.specs.Commands.{or_else}
-use Rattle.session_model.specs.Types.{desc_of, is_root_type, is_same_ref_name, latest_from, latest_id, repeats_member, root_type, type_in}
+use Rattle.refactor_table.specs.Names.{same_name}
+use Rattle.session_model.specs.Types.{is_root_type, repeats_member, type_in}
 use Rattle.session_model.specs.Answer.{State, Refusal, differs, duplicate, is_full, is_known, ok, refactor_turn, reserved, type_known, type_new, type_turn, wrong_kind}
 use Rattle.session_model.specs.Sound.{IsSound}
 use Rattle.session_model.proofs.Frames.{pair_added, type_added}
@@ -37,7 +40,7 @@ refactor_line_sound state old new s = judged_sound state refusals (ok (record st
   where
     refusals : List Refusal
     refusals = reserved (is_root_type (type_in old) || is_root_type (type_in new))
-        ∷ duplicate (list_any (λ (p : Pair). is_same_ref_name p.old old || is_same_ref_name p.new new) state.pairs)
+        ∷ duplicate (list_any (λ (p : Pair). same_name p.old old || same_name p.new new) state.pairs)
         ∷ wrong_kind (differs state old new)
         ∷ []
 
@@ -66,7 +69,7 @@ latest_stands first (d ∷ types) name id e = by (latest_from (first + 1) types 
     later t = let low = t.low in let next : id - first ≡ suc (id - (first + 1)) = omega arith in
         record { desc = t.desc; low = omega arith; stands = ap (λ (n : ℕ). slice_get (d ∷ types) n) next ∙ t.stands }
 
-    by : (o : Option ℕ) → latest_from (first + 1) types name ≡ o → or_else o (cond (bytes_eq d.name name) (Some first) None) ≡ Some id
+    by : (o : Option ℕ) → latest_from (first + 1) types name ≡ o → option_or o (cond (bytes_eq d.name name) (Some first) None) ≡ Some id
         → (latest_from (first + 1) types name ≡ Some id → StandsFrom (first + 1) types id) → StandsFrom first (d ∷ types) id
     by None f e ih = here (bytes_eq d.name name) e
     by (Some other) f e ih = later (ih (f ∙ e))
@@ -77,11 +80,11 @@ recorded types id t = let low = t.low in
     let above : nat_le 16 id ≡ true = le-leb 16 id low in
     record {
       desc = t.desc;
-      known = ap (λ (b : Bool). cond b (Some root_type) (cond (nat_le 16 id) (slice_get types (id - 16)) None)) other
+      known = ap (λ (b : Bool). cond b (Some root_desc) (cond (nat_le 16 id) (slice_get types (id - 16)) None)) other
           ∙ (ap (λ (b : Bool). cond b (slice_get types (id - 16)) None) above ∙ t.stands);
       low = low;
     }
 
 -- the latest type of another name than the root's was recorded
-pub latest_recorded : (types : List TypeDesc) (name : List ℕ) (id : ℕ) → is_root_type name ≡ false → latest_id types name ≡ Some id → IsRecorded types id
+pub latest_recorded : (types : List TypeDesc) (name : List ℕ) (id : ℕ) → is_root_type name ≡ false → latest_of types name ≡ Some id → IsRecorded types id
 latest_recorded types name id other e = recorded types id (latest_stands 16 types name id (sym (ap (λ (b : Bool). cond b (Some 1) (latest_from 16 types name)) other) ∙ e))

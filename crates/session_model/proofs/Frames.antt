@@ -7,8 +7,9 @@ use Rattle.graph_model.specs.Graph.{Graph, has_edge, lists}
 use Rattle.graph_model.specs.Stores.{is_good_id}
 use Rattle.graph_model.specs.declared.entity.Entity.{Entity}
 use Rattle.type_desc.specs.declared.desc.TypeDesc.{TypeDesc}
+use Rattle.type_desc.specs.Root.{root_desc}
+use Rattle.type_dictionary.specs.Latest.{desc_of}
 use Rattle.refactor_table.specs.declared.name.Pair.{Pair}
-use Rattle.session_model.specs.Types.{desc_of, root_type}
 use Rattle.session_model.specs.Instances.{Instance, Instances}
 use Rattle.session_model.specs.Answer.{State, bound, is_bound, is_root_name}
 use Rattle.session_model.specs.Sound.{AreTypes, HasForm, IsHere, IsRightGraph, IsRightInstance, IsRightType, IsSound, spares_root}
@@ -81,8 +82,8 @@ got_last (z ∷ xs) y (suc i) x e = got_last xs y i x e
 keeps_types : (types : List TypeDesc) (desc : TypeDesc) → KeepsTypes types (types ++ desc ∷ [])
 keeps_types types new id desc = by (nat_eq id 1) (nat_le 16 id)
   where
-    by : (s t : Bool) → cond s (Some root_type) (cond t (slice_get types (id - 16)) None) ≡ Some desc
-        → cond s (Some root_type) (cond t (slice_get (types ++ new ∷ []) (id - 16)) None) ≡ Some desc
+    by : (s t : Bool) → cond s (Some root_desc) (cond t (slice_get types (id - 16)) None) ≡ Some desc
+        → cond s (Some root_desc) (cond t (slice_get (types ++ new ∷ []) (id - 16)) None) ≡ Some desc
     by true t e = e
     by false true e = got_more types (new ∷ []) (id - 16) desc e
     by false false e = e

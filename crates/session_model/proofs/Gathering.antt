@@ -10,9 +10,10 @@ use Rattle.graph_model.specs.declared.entity.Entity.{Entity}
 use Rattle.graph_model.specs.declared.entity.Record.{Record}
 use Rattle.graph_model.specs.declared.entity.StoreOp.{StoreOp}
 use Rattle.type_desc.specs.declared.desc.TypeDesc.{TypeDesc}
+use Rattle.type_desc.specs.Root.{root_desc}
+use Rattle.type_dictionary.specs.Latest.{desc_of}
 use Rattle.entity_form.specs.Values as form
 use Rattle.entity_form.specs.Values.{refs_of}
-use Rattle.session_model.specs.Types.{desc_of, root_type}
 use Rattle.session_model.specs.Instances.{Instance, Instances, Held, instance_at, has_instance, held_ids, graph_of, is_unsaved, gathered_lazily, gathered_eagerly}
 use Rattle.session_model.specs.Answer.{State, gathered_records, are_too_big}
 use Rattle.session_model.specs.Sound.{IsSound, IsRightInstance, IsHere, all_refs}
@@ -91,7 +92,7 @@ has_records (r ∷ rs) y e is = omega arith
 pub type_is_counted : (types : List TypeDesc) (id : ℕ) (desc : TypeDesc) → desc_of types id ≡ Some desc → 1 ≤ id
 type_is_counted types id desc = by (nat_eq id 1) (nat_le 16 id) refl refl
   where
-    by : (s t : Bool) → nat_eq id 1 ≡ s → nat_le 16 id ≡ t → cond s (Some root_type) (cond t (slice_get types (id - 16)) None) ≡ Some desc → 1 ≤ id
+    by : (s t : Bool) → nat_eq id 1 ≡ s → nat_le 16 id ≡ t → cond s (Some root_desc) (cond t (slice_get types (id - 16)) None) ≡ Some desc → 1 ≤ id
     by true t e f is = let same = eqb-true id 1 e in omega arith
     by false true e f is = let low = leb-true 16 id f in omega arith
     by false false e f is = absurd cc

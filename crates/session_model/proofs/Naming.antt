@@ -11,11 +11,12 @@ use Rattle.graph_model.proofs.IdSets.{has_append}
 use Rattle.type_desc.specs.declared.desc.Kind.{Kind}
 use Rattle.type_desc.specs.declared.desc.Kind.TheVariants as kinds
 use Rattle.type_desc.specs.declared.desc.TypeDesc.{TypeDesc}
+use Rattle.type_dictionary.specs.Latest.{desc_of, latest_of}
 use Rattle.entity_form.specs.Values.{default_of, kind_of, kinds_of, refs_of}
 use Rattle.entity_form.proofs.DefaultKinds.{kinds_of-defaults}
 use Rattle.entity_form.specs.declared.value.Value.{Value}
 use Rattle.entity_form.specs.declared.value.Value.TheVariants.{Int, Text, Bytes, Ref, Lazy, Refs}
-use Rattle.session_model.specs.Types.{desc_of, is_root_type, desc_at, latest_desc, latest_id}
+use Rattle.session_model.specs.Types.{is_root_type, desc_at, latest_desc}
 use Rattle.session_model.specs.Instances.{Instance, Instances, eager_refs_of, instance_at, put_instance}
 use Rattle.session_model.specs.Answer.{State, Refusal, answered, bound, drop_turn, fresh, home_turn, is_bound, is_full, is_root_name, lacks_member, name_taken, new_turn, no_desc, no_member, no_name, no_root, no_target, no_type, nothing, ok, out_of_range, pick_turn, ref_in, refs_in, reserved, root_target, value_in, value_of, wrong_kind}
 use Rattle.session_model.specs.Sound.{IsHere, IsProper, IsRightInstance, IsSound}
@@ -114,7 +115,7 @@ object_made state name type_id desc s started other free room known low =
 pub new_line_sound : (state : State) (name type_name : List ℕ) → IsSound state → state.started ≡ true → IsSound (new_turn state name type_name).state
 new_line_sound state name type_name s started = judged_sound state refusals (answered made (codes "new " ++ decimal state.next_id)) s
     (λ none. let t = or_parts (is_root_name name) (is_root_type type_name) none.0 in
-    effect t.0 none.1.0 (there_is (latest_id state.types type_name) none.1.1.0) t.1 (leb-false (2 ^ 48) state.next_id none.1.1.1.0))
+    effect t.0 none.1.0 (there_is (latest_of state.types type_name) none.1.1.0) t.1 (leb-false (2 ^ 48) state.next_id none.1.1.1.0))
   where
     made_of : Option ℕ → Option TypeDesc → State
     made_of id desc = record (bound state name state.next_id) { next_id = state.next_id + 1; instances = put_instance state.next_id (fresh (unwrap_or id 0) (unwrap_or desc no_desc)) state.instances }
@@ -122,17 +123,17 @@ new_line_sound state name type_name s started = judged_sound state refusals (ans
     made : State
     made = record (bound state name state.next_id) {
       next_id = state.next_id + 1;
-      instances = put_instance state.next_id (fresh (unwrap_or (latest_id state.types type_name) 0) (unwrap_or (latest_desc state.types type_name) no_desc)) state.instances;
+      instances = put_instance state.next_id (fresh (unwrap_or (latest_of state.types type_name) 0) (unwrap_or (latest_desc state.types type_name) no_desc)) state.instances;
     }
 
     refusals : List Refusal
-    refusals = reserved (is_root_name name || is_root_type type_name) ∷ name_taken (is_bound state name) ∷ no_type (is_none (latest_id state.types type_name)) ∷ is_full (nat_le (2 ^ 48) state.next_id) ∷ []
+    refusals = reserved (is_root_name name || is_root_type type_name) ∷ name_taken (is_bound state name) ∷ no_type (is_none (latest_of state.types type_name)) ∷ is_full (nat_le (2 ^ 48) state.next_id) ∷ []
 
-    effect : is_root_name name ≡ false → is_bound state name ≡ false → (id : ℕ) × (latest_id state.types type_name ≡ Some id) → is_root_type type_name ≡ false → state.next_id < 2 ^ 48 → IsSound made
+    effect : is_root_name name ≡ false → is_bound state name ≡ false → (id : ℕ) × (latest_of state.types type_name ≡ Some id) → is_root_type type_name ≡ false → state.next_id < 2 ^ 48 → IsSound made
     effect other free latest plain room =
         let r = latest_recorded state.types type_name latest.0 plain latest.1 in
         let known : latest_desc state.types type_name ≡ Some r.desc = ap (λ (o : Option ℕ). desc_at state.types o) latest.1 ∙ r.known in
-        subst (λ (d : Option TypeDesc). IsSound (made_of (latest_id state.types type_name) d)) (sym known)
+        subst (λ (d : Option TypeDesc). IsSound (made_of (latest_of state.types type_name) d)) (sym known)
         (subst (λ (o : Option ℕ). IsSound (made_of o (Some r.desc))) (sym latest.1)
         (object_made state name latest.0 r.desc s started other free room r.known r.low))
 

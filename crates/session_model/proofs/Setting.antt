@@ -7,12 +7,13 @@ use Rattle.graph_model.specs.Ids.{has}
 use Rattle.graph_model.proofs.IdSets.{has_append}
 use Rattle.type_desc.specs.declared.desc.Kind.TheVariants as kinds
 use Rattle.type_desc.specs.declared.desc.TypeDesc.{TypeDesc}
+use Rattle.type_desc.specs.Root.{root_desc}
+use Rattle.type_dictionary.specs.Latest.{desc_of}
 use Rattle.entity_form.specs.Values.{AreOf, kind_of, kinds_of}
 use Rattle.entity_form.specs.declared.value.Value.{Value}
 use Rattle.entity_form.specs.declared.value.Value.TheVariants.{Int, Text, Bytes, Ref, Lazy, Refs}
 use Rattle.session_model.specs.Commands as cmd
 use Rattle.session_model.specs.Commands.{Target, integer_of, target_of}
-use Rattle.session_model.specs.Types.{desc_of, root_type}
 use Rattle.session_model.specs.Instances.{Instance, Instances, eager_refs_of, instance_at}
 use Rattle.session_model.specs.Answer.{State, Given, Refusal, Fits, OutOfRange, add_turn, cut_turn, found_id, given, given_bytes, given_id, given_int, given_value, hex_bytes, id_in, id_of, is_bound, is_in_range, is_out_of_range, is_unbound, lacks_member, member_at, misfits, named_instance, no_member, no_name, nothing, ok, out_of_range, refs_in, root_turn, set_turn, set_value, target_id, value_in, value_of, with_value, without_at, wrong_kind}
 use Rattle.session_model.specs.Sound.{IsHere, IsSound}
@@ -225,8 +226,8 @@ pub root_value : (types : List TypeDesc) (id : ℕ) (desc : TypeDesc) (vs : List
     → (old : Value) × (slice_get vs 0 ≡ Some old) × (kind_of old ≡ kinds.Ref)
 root_value types id desc vs root known are = of_root vs (subst (λ (d : TypeDesc). map kind_of vs ≡ kinds_of d) (is_root (desc_of types id) refl) are)
   where
-    is_root : (o : Option TypeDesc) → desc_of types id ≡ o → desc ≡ root_type
-    is_root o e = let k : desc_of types id ≡ Some root_type = ap (λ (b : Bool). cond b (Some root_type) (cond (nat_le 16 id) (slice_get types (id - 16)) None)) root in cc
+    is_root : (o : Option TypeDesc) → desc_of types id ≡ o → desc ≡ root_desc
+    is_root o e = let k : desc_of types id ≡ Some root_desc = ap (λ (b : Bool). cond b (Some root_desc) (cond (nat_le 16 id) (slice_get types (id - 16)) None)) root in cc
 
     of_root : (vs : List Value) → map kind_of vs ≡ kinds.Ref ∷ [] → (old : Value) × (slice_get vs 0 ≡ Some old) × (kind_of old ≡ kinds.Ref)
     of_root [] e = absurd cc

@@ -6,6 +6,7 @@ use Rattle.std.specs.Str.{bytes_eq, is_utf8}
 use Rattle.std.proofs.lemmas.Bool.{eqb-true, leb-true}
 use Rattle.std.proofs.lemmas.List.{append_assoc, drop_at, get_or_at, length_push}
 use Rattle.std.proofs.lemmas.Str.{IsCharBoundary-after_ascii, IsUtf8-drop, IsUtf8-from_is_utf8}
+use Rattle.std.specs.Option.{option_or}
 use Rattle.type_desc.specs.Grammar.{HasMemberName, IsName}
 use Rattle.type_desc.specs.Reader.{Reading}
 use Rattle.type_desc.specs.Reading.{name_at}
@@ -17,7 +18,7 @@ use Rattle.refactor_table.specs.Reading.{ref_name_at}
 use Rattle.refactor_table.specs.declared.name.RefName.{RefName}
 use Rattle.refactor_table.specs.declared.name.RefName.TheVariants.{OfType, OfMember}
 use Rattle.session_model.specs.Commands as cmd
-use Rattle.session_model.specs.Commands.{Command, Row, Target, ◌>>=◌, add_line, bare_line, by_first, by_rows, command_in, command_of, cut_at, cut_line, follow_line, front_words, kind_named, member_name_of, member_of, members_of, name_line, name_of, new_line, number_of, or_else, pick_line, refactor_line, refactor_of, rows, set_line, set_of, target_of, type_line, type_name_of, whole, words_of}
+use Rattle.session_model.specs.Commands.{Command, Row, Target, ◌>>=◌, add_line, bare_line, by_first, by_rows, command_in, command_of, cut_at, cut_line, follow_line, front_words, kind_named, member_name_of, member_of, members_of, name_line, name_of, new_line, number_of, pick_line, refactor_line, refactor_of, rows, set_line, set_of, target_of, type_line, type_name_of, whole, words_of}
 use Rattle.session_model.specs.Sound.{IsProperCommand}
 
 -- ---- what stands behind a space is UTF-8
@@ -249,7 +250,7 @@ first_proper (word ∷ words) c e = by_rows_proper rows rows_proper word words c
 in_line_proper : (line : List ℕ) (c : Command) → IsUtf8 line → command_in line ≡ Some c → IsProperCommand c
 in_line_proper line c utf8 = by (set_of line) refl
   where
-    by : (o : Option Command) → set_of line ≡ o → or_else o (by_first (words_of line)) ≡ Some c → IsProperCommand c
+    by : (o : Option Command) → set_of line ≡ o → option_or o (by_first (words_of line)) ≡ Some c → IsProperCommand c
     by None e h = first_proper (words_of line) c h
     by (Some set) e h = set_proper line c utf8 (e ∙ h)
 

@@ -5,7 +5,7 @@ use Rattle.std.specs.Str.{bytes_eq}
 use Rattle.std.proofs.lemmas.Bool.{eqb-true}
 use Rattle.graph_model.specs.Graph.{Graph, lists}
 use Rattle.type_desc.specs.declared.desc.TypeDesc.{TypeDesc}
-use Rattle.session_model.specs.Types.{root_type}
+use Rattle.type_desc.specs.Root.{root_desc}
 use Rattle.session_model.specs.Instances.{Instance, Instances, put_instance}
 use Rattle.session_model.specs.Loading.{load}
 use Rattle.session_model.specs.Answer.{State, first_instances, fresh, opened}
@@ -58,29 +58,29 @@ none_here : {P : Type 0} (y : ℕ) → IsHere [] y → P
 none_here y there = let e = there.1 in absurd cc
 
 -- a root that was never stored
-new_root : (state : State) → lists state.graph 1 ≡ false → IsFilled state.types state.next_id state.graph [] (put_instance 1 (fresh 1 root_type) []) 1
+new_root : (state : State) → lists state.graph 1 ≡ false → IsFilled state.types state.next_id state.graph [] (put_instance 1 (fresh 1 root_desc) []) 1
 new_root state absent = record {
   order = refl;
   each = λ y i at. by y i (nat_eq 1 y) refl at;
   here = λ y there. none_here y there;
-  new = λ there. (fresh 1 root_type, refl);
+  new = λ there. (fresh 1 root_desc, refl);
 }
   where
-    by : (y : ℕ) (i : Instance) (b : Bool) → nat_eq 1 y ≡ b → cond b (Some (fresh 1 root_type)) None ≡ Some i
-        → IsRightInstance state.types state.next_id state.graph (put_instance 1 (fresh 1 root_type) []) y i
-    by y i true e at = let same : fresh 1 root_type ≡ i = cc in let root : 1 ≡ y = eqb-true 1 y e in
-        subst (IsRightInstance state.types state.next_id state.graph (put_instance 1 (fresh 1 root_type) []) y) same
-        (subst (λ (z : ℕ). IsRightInstance state.types state.next_id state.graph (put_instance 1 (fresh 1 root_type) []) z (fresh 1 root_type)) root
-        (fresh_right state.types state.next_id state.graph (put_instance 1 (fresh 1 root_type) []) 1 1 root_type refl refl refl absent))
+    by : (y : ℕ) (i : Instance) (b : Bool) → nat_eq 1 y ≡ b → cond b (Some (fresh 1 root_desc)) None ≡ Some i
+        → IsRightInstance state.types state.next_id state.graph (put_instance 1 (fresh 1 root_desc) []) y i
+    by y i true e at = let same : fresh 1 root_desc ≡ i = cc in let root : 1 ≡ y = eqb-true 1 y e in
+        subst (IsRightInstance state.types state.next_id state.graph (put_instance 1 (fresh 1 root_desc) []) y) same
+        (subst (λ (z : ℕ). IsRightInstance state.types state.next_id state.graph (put_instance 1 (fresh 1 root_desc) []) z (fresh 1 root_desc)) root
+        (fresh_right state.types state.next_id state.graph (put_instance 1 (fresh 1 root_desc) []) 1 1 root_desc refl refl refl absent))
     by y i false e at = absurd cc
 
 pub begun_sound : (state : State) (ks : Instances) → IsSound state → state.started ≡ false → first_instances state ≡ Ok ks → IsSound (record state { instances = ks; started = true })
 begun_sound state ks s unbegun first = by (lists state.graph 1) refl first
   where
-    by : (b : Bool) → lists state.graph 1 ≡ b → cond b (load state.types state.pairs state.graph [] 1) (Ok (put_instance 1 (fresh 1 root_type) [])) ≡ Ok ks → IsSound (record state { instances = ks; started = true })
+    by : (b : Bool) → lists state.graph 1 ≡ b → cond b (load state.types state.pairs state.graph [] 1) (Ok (put_instance 1 (fresh 1 root_desc) [])) ≡ Ok ks → IsSound (record state { instances = ks; started = true })
     by true there loads =
         let f = filled state.types state.pairs state.next_id state.graph [] 1 ks s.types s.pairs s.graph refl (λ y i at. absurd cc) loads in
         begun_with state ks s unbegun f (f.new there)
     by false absent made =
-        let same : put_instance 1 (fresh 1 root_type) [] ≡ ks = cc in
-        subst (λ (is : Instances). IsSound (record state { instances = is; started = true })) same (begun_with state (put_instance 1 (fresh 1 root_type) []) s unbegun (new_root state absent) (fresh 1 root_type, refl))
+        let same : put_instance 1 (fresh 1 root_desc) [] ≡ ks = cc in
+        subst (λ (is : Instances). IsSound (record state { instances = is; started = true })) same (begun_with state (put_instance 1 (fresh 1 root_desc) []) s unbegun (new_root state absent) (fresh 1 root_desc, refl))

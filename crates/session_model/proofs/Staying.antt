@@ -6,13 +6,15 @@ use Rattle.std.specs.Str.{bytes_eq}
 use Rattle.std.proofs.lemmas.Bool.{and_parts, eqb-true, ltb-true, not-false, or_cases}
 use Rattle.graph_model.specs.Ids.{has}
 use Rattle.type_desc.specs.declared.desc.TypeDesc.{TypeDesc}
+use Rattle.type_dictionary.specs.Latest.{latest_of}
 use Rattle.entity_form.specs.declared.value.Value.{Value}
 use Rattle.entity_form.specs.declared.value.Value.TheVariants.{Ref, Refs}
 use Rattle.refactor_table.specs.declared.name.Pair.{Pair}
 use Rattle.refactor_table.specs.declared.name.RefName.{RefName}
+use Rattle.refactor_table.specs.Names.{same_name}
 use Rattle.session_model.specs.Commands as cmd
 use Rattle.session_model.specs.Commands.{Command, Target}
-use Rattle.session_model.specs.Types.{is_root_type, is_same_ref_name, latest_desc, latest_id, repeats_member, type_in}
+use Rattle.session_model.specs.Types.{is_root_type, latest_desc, repeats_member, type_in}
 use Rattle.session_model.specs.Instances.{Instance, Instances, gathered_eagerly, gathered_lazily, held_ids, instance_at, put_instance}
 use Rattle.session_model.specs.Answer.{Binding, Given, Refusal, State, Turn, answered, are_too_big, bound, command_turn, desc_of_instance, differs, duplicate, fresh, gathered_records, given, given_value, id_of, is_bound, is_full, is_known, is_out_of_range, is_root_name, is_unbound, judged, lacks_member, needs_start, loaded_turn, member_at, misfits, name_taken, named_instance, no_desc, no_member, no_name, no_root, no_target, no_type, nothing, ok, out_of_range, ref_in, refs_in, reserved, root_target, set_value, stored, target_id, too_big, type_known, type_new, value_of, with_loaded, with_value, without_at, wrong_kind}
 use Rattle.session_model.specs.Answer as lines
@@ -82,19 +84,19 @@ type_stays state desc = kept_by state
 refactor_stays : (state : State) (old new : RefName) → Stays state (lines.refactor_turn state old new).state
 refactor_stays state old new = kept_by state
     (reserved (is_root_type (type_in old) || is_root_type (type_in new))
-    ∷ duplicate (list_any (λ (p : Pair). is_same_ref_name p.old old || is_same_ref_name p.new new) state.pairs)
+    ∷ duplicate (list_any (λ (p : Pair). same_name p.old old || same_name p.new new) state.pairs)
     ∷ wrong_kind (differs state old new)
     ∷ [])
     (ok (record state { pairs = state.pairs ++ record { old = old; new = new } ∷ [] })) (record { held = λ y. refl; next = omega arith })
 
 new_stays : (state : State) (name type_name : List ℕ) → IsSound state → Stays state (lines.new_turn state name type_name).state
 new_stays state name type_name s = kept_by state
-    (reserved (is_root_name name || is_root_type type_name) ∷ name_taken (is_bound state name) ∷ no_type (is_none (latest_id state.types type_name)) ∷ is_full (nat_le (2 ^ 48) state.next_id) ∷ [])
+    (reserved (is_root_name name || is_root_type type_name) ∷ name_taken (is_bound state name) ∷ no_type (is_none (latest_of state.types type_name)) ∷ is_full (nat_le (2 ^ 48) state.next_id) ∷ [])
     (answered (record (bound state name state.next_id) { next_id = state.next_id + 1; instances = put_instance state.next_id made state.instances }) (codes "new " ++ decimal state.next_id))
     (record { held = held_put state.instances state.next_id made s.order (sym (next_is_free state s)); next = omega arith })
   where
     made : Instance
-    made = fresh (unwrap_or (latest_id state.types type_name) 0) (unwrap_or (latest_desc state.types type_name) no_desc)
+    made = fresh (unwrap_or (latest_of state.types type_name) 0) (unwrap_or (latest_desc state.types type_name) no_desc)
 
 -- a line that sets a member of a bound name
 setting_stays : (state : State) (name member : List ℕ) (value : Value) (refusals : List Refusal) → IsSound state → state.started ≡ true

@@ -8,8 +8,10 @@ use Rattle.graph_model.specs.Graph.{Graph, lists, entity_size, after}
 use Rattle.graph_model.specs.declared.entity.Record.{Record}
 use Rattle.graph_model.specs.declared.entity.StoreOp.{StoreOp}
 use Rattle.type_desc.specs.Grammar.{record_text}
+use Rattle.type_desc.specs.Root.{root_desc}
 use Rattle.type_desc.specs.declared.desc.Kind.{Kind}
 use Rattle.type_desc.specs.declared.desc.TypeDesc.{TypeDesc}
+use Rattle.type_dictionary.specs.Latest.{desc_of, latest_of}
 use Rattle.entity_form.specs.Reading.{values_at}
 use Rattle.entity_form.specs.Values.{kinds_of, default_of, entity_of}
 use Rattle.entity_form.specs.declared.value.Value.{Value}
@@ -18,9 +20,10 @@ use Rattle.refactor_table.specs.declared.name.Pair.{Pair}
 use Rattle.refactor_table.specs.declared.name.RefName.{RefName}
 use Rattle.refactor_table.specs.declared.name.RefName.TheVariants.{OfMember}
 use Rattle.graph_export.specs.Line.{line}
+use Rattle.refactor_table.specs.Names.{same_name}
 use Rattle.session_model.specs.Commands as cmd
 use Rattle.session_model.specs.Commands.{Command, Target, command_of, integer_of}
-use Rattle.session_model.specs.Types.{root_type, is_root_type, desc_of, latest_id, latest_desc, is_same_desc, member_index, kind_of_member, is_same_kind, repeats_member, is_same_ref_name, type_in}
+use Rattle.session_model.specs.Types.{is_root_type, latest_desc, is_same_desc, member_index, kind_of_member, is_same_kind, repeats_member, type_in}
 use Rattle.session_model.specs.Instances.{Instance, Instances, Held, instance_at, has_instance, put_instance, held_ids, reached, gathered_lazily, gathered_eagerly, kept_instances}
 use Rattle.session_model.specs.Loading.{load, values_in}
 
@@ -267,7 +270,7 @@ abbrev pub is_known : State → TypeDesc → Bool
 is_known state desc = is_latest (latest_desc state.types desc.name) desc
 
 abbrev pub type_known : State → TypeDesc → Turn
-type_known state desc = answered state (codes "type " ++ decimal (unwrap_or (latest_id state.types desc.name) 0))
+type_known state desc = answered state (codes "type " ++ decimal (unwrap_or (latest_of state.types desc.name) 0))
 
 abbrev pub type_new : State → TypeDesc → Turn
 type_new state desc =
@@ -300,7 +303,7 @@ differs state _ _ = false
 abbrev pub refactor_turn : State → RefName → RefName → Turn
 refactor_turn state old new = judged state
     (reserved (is_root_type (type_in old) || is_root_type (type_in new))
-    ∷ duplicate (list_any (λ (p : Pair). is_same_ref_name p.old old || is_same_ref_name p.new new) state.pairs)
+    ∷ duplicate (list_any (λ (p : Pair). same_name p.old old || same_name p.new new) state.pairs)
     ∷ wrong_kind (differs state old new)
     ∷ [])
     (ok (record state { pairs = state.pairs ++ record { old = old; new = new } ∷ [] }))
@@ -312,11 +315,11 @@ fresh type_id desc = record { object = record { type_id = type_id; values = map 
 abbrev pub new_turn : State → (name type_name : List ℕ) → Turn
 new_turn state name type_name =
     let id = state.next_id in
-    let instance = fresh (unwrap_or (latest_id state.types type_name) 0) (unwrap_or (latest_desc state.types type_name) no_desc) in
+    let instance = fresh (unwrap_or (latest_of state.types type_name) 0) (unwrap_or (latest_desc state.types type_name) no_desc) in
     judged state
     (reserved (is_root_name name || is_root_type type_name)
     ∷ name_taken (is_bound state name)
-    ∷ no_type (is_none (latest_id state.types type_name))
+    ∷ no_type (is_none (latest_of state.types type_name))
     ∷ is_full (nat_le (2 ^ 48) id)
     ∷ [])
     (answered (record (bound state name id) { next_id = id + 1; instances = put_instance id instance state.instances }) (codes "new " ++ decimal id))
@@ -511,7 +514,7 @@ needs_start _ = true
 abbrev pub first_instances : State → Result Instances (List ℕ)
 first_instances state =
     if lists state.graph 1 then load state.types state.pairs state.graph [] 1
-    else Ok (put_instance 1 (fresh 1 root_type) [])
+    else Ok (put_instance 1 (fresh 1 root_desc) [])
 
 abbrev pub started_turn : ℕ → State → Command → Result Instances (List ℕ) → Turn
 started_turn most state command (Ok instances) = command_turn most (record state { instances = instances; started = true }) command

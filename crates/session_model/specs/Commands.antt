@@ -3,6 +3,8 @@ use Rattle.std.specs.Prelude.{ℕ, zero, suc, ◌+◌, ◌-◌, ◌*◌, ◌==�
 use Rattle.std.specs.List.{list_all}
 use Rattle.std.specs.Char.{is_ascii_digit}
 use Rattle.std.specs.Str.{bytes_eq, is_utf8}
+use Rattle.std.specs.Option.{option_or}
+pub use Rattle.std.specs.Option.{option_or as or_else}
 use Rattle.type_desc.specs.Reader.{Reading}
 use Rattle.type_desc.specs.Reading.{name_at}
 use Rattle.type_desc.specs.declared.desc.Kind.{Kind}
@@ -44,11 +46,6 @@ infixl 10 ◌>>=◌
 abbrev pub ◌>>=◌ : {A B : Type 0} → Option A → (A → Option B) → Option B
 None >>= make = None
 (Some value) >>= make = make value
-
--- the first value where there is one, else the second
-abbrev pub or_else : {A : Type 0} → Option A → Option A → Option A
-or_else None second = second
-or_else (Some first) second = Some first
 
 -- ---- words
 
@@ -257,7 +254,7 @@ set_of line = do
 
 -- the command that a line of UTF-8 spells
 abbrev pub command_in : List ℕ → Option Command
-command_in line = or_else (set_of line) (by_first (words_of line))
+command_in line = option_or (set_of line) (by_first (words_of line))
 
 -- the command that a line spells; a line that is no UTF-8 spells none
 unfoldable pub command_of : List ℕ → Option Command

@@ -1,18 +1,19 @@
 -- What becomes of a stored entity in memory, and the closure that is loaded with an id.
-use Rattle.std.specs.Prelude.{ℕ, not, true, false, if◌then◌else◌, Option, Some, None, Result, Ok, Err, List, [], ◌∷◌, codes, map, slice_get, unwrap_or}
+use Rattle.std.specs.Prelude.{ℕ, not, true, false, if◌then◌else◌, Option, Some, None, Result, Ok, Err, List, [], ◌∷◌, codes, map}
 use Rattle.std.specs.List.{filter, flat_map}
 use Rattle.graph_model.specs.Ids.{has}
 use Rattle.graph_model.specs.Graph.{Graph}
 use Rattle.graph_model.specs.declared.entity.Entity.{Entity}
 use Rattle.graph_model.specs.declared.entity.Record.{Record}
 use Rattle.type_desc.specs.declared.desc.TypeDesc.{TypeDesc}
+use Rattle.type_dictionary.specs.Latest.{desc_of, latest_of}
 use Rattle.entity_form.specs.Reading.{values_at}
-use Rattle.entity_form.specs.Values.{kinds_of, default_of}
-use Rattle.type_desc.specs.declared.desc.Kind.{Kind}
+use Rattle.entity_form.specs.Values.{kinds_of}
 use Rattle.entity_form.specs.declared.value.Object.{Object}
 use Rattle.entity_form.specs.declared.value.Value.{Value}
 use Rattle.refactor_table.specs.declared.name.Pair.{Pair}
-use Rattle.session_model.specs.Types.{desc_of, latest_id, latest_desc, target_name, sources_of, all_of_kinds}
+pub use Rattle.legacy_mapping.specs.Conversion.{value_from, converted}
+use Rattle.session_model.specs.Types.{latest_desc, target_name, sources_of, all_of_kinds}
 use Rattle.session_model.specs.Instances.{Instances, put_instance, has_instance, eager_refs_of, reached}
 
 -- an object of the latest type; or why there is none
@@ -22,17 +23,6 @@ pub data Converted : Type 0 where
   NoType : Converted
   -- a member and its source are of two kinds
   WrongKind : Converted
-
--- the value of a member's source, else the default of its kind
-abbrev pub value_from : List Value → Kind → Option ℕ → Value
-value_from values kind None = default_of kind
-value_from values kind (Some i) = unwrap_or (slice_get values i) (default_of kind)
-
--- for each member of the newer type, in order, the value of its source
-abbrev pub converted : List Value → List Kind → List (Option ℕ) → List Value
-converted values [] sources = []
-converted values (kind ∷ kinds) [] = []
-converted values (kind ∷ kinds) (source ∷ sources) = value_from values kind source ∷ converted values kinds sources
 
 abbrev pub values_in : Result (List Value) ℕ → List Value
 values_in (Ok values) = values
@@ -53,7 +43,7 @@ converted_if pairs entity old _ _ = NoType
 abbrev pub converted_from : List TypeDesc → List Pair → Entity → Option TypeDesc → Converted
 converted_from types pairs entity None = NoType
 converted_from types pairs entity (Some old) =
-    let name = target_name pairs old.name in converted_if pairs entity old (latest_id types name) (latest_desc types name)
+    let name = target_name pairs old.name in converted_if pairs entity old (latest_of types name) (latest_desc types name)
 
 abbrev pub conversion : List TypeDesc → List Pair → Entity → Converted
 conversion types pairs entity = converted_from types pairs entity (desc_of types entity.type_id)

@@ -8,6 +8,7 @@ use Rattle.graph_model.specs.Graph.{Graph, entity_of, entity_size, lists, has_ed
 use Rattle.graph_model.specs.Stores.{any_edge, is_good_id}
 use Rattle.type_desc.specs.Grammar.{IsDesc}
 use Rattle.type_desc.specs.declared.desc.TypeDesc.{TypeDesc}
+use Rattle.type_dictionary.specs.Latest.{desc_of}
 use Rattle.entity_form.specs.Form.{Holds}
 use Rattle.entity_form.specs.Values.{kinds_of, AreOf, refs_of}
 use Rattle.entity_form.specs.declared.value.Value.{Value}
@@ -15,7 +16,7 @@ use Rattle.entity_form.specs.declared.value.Value.TheVariants.{Int, Text, Bytes,
 use Rattle.refactor_table.specs.declared.name.Pair.{Pair}
 use Rattle.session_model.specs.Commands as cmd
 use Rattle.session_model.specs.Commands.{Command}
-use Rattle.session_model.specs.Types.{desc_of, is_root_type, repeats_member, type_in}
+use Rattle.session_model.specs.Types.{is_root_type, repeats_member, type_in}
 use Rattle.session_model.specs.Instances.{Instance, Instances, Held, instance_at, has_instance, eager_refs_of}
 use Rattle.session_model.specs.Answer.{State, Binding, id_in}
 

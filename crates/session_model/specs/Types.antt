@@ -1,43 +1,31 @@
--- The types of a script: their ids, the latest of a name, and what becomes of an object of an older one.
-use Rattle.std.specs.Prelude.{ℕ, ◌+◌, ◌-◌, ◌==◌, nat_le, ◌&&◌, not, Bool, true, false, if◌then◌else◌, Option, Some, None, option_map, List, [], ◌∷◌, codes, slice_get}
+-- The types of a script: the latest of a name, and what becomes of an object of an older one.
+use Rattle.std.specs.Prelude.{ℕ, ◌&&◌, not, Bool, true, false, if◌then◌else◌, Option, Some, None, option_map, List, [], ◌∷◌, codes, slice_get}
 use Rattle.std.specs.List.{list_any, position}
 use Rattle.std.specs.Str.{bytes_eq}
+use Rattle.std.specs.Option.{option_or}
 use Rattle.type_desc.specs.Grammar.{record_text}
 use Rattle.type_desc.specs.declared.desc.Kind.{Kind}
 use Rattle.type_desc.specs.declared.desc.Kind.TheVariants as kinds
 use Rattle.type_desc.specs.declared.desc.Member.{Member}
 use Rattle.type_desc.specs.declared.desc.TypeDesc.{TypeDesc}
+use Rattle.type_dictionary.specs.Latest.{latest_of}
+pub use Rattle.type_dictionary.specs.Latest.{desc_of, latest_from, latest_of as latest_id}
+pub use Rattle.type_desc.specs.Root.{root_desc as root_type}
 use Rattle.refactor_table.specs.declared.name.Pair.{Pair}
 use Rattle.refactor_table.specs.declared.name.RefName.{RefName}
 use Rattle.refactor_table.specs.declared.name.RefName.TheVariants.{OfType, OfMember}
-use Rattle.session_model.specs.Commands.{or_else}
-
--- the built-in type of the root, with the one member `target`
-abbrev pub root_type : TypeDesc
-root_type = record { name = codes "Root"; members = (record { kind = kinds.Ref; name = codes "target" }) ∷ [] }
+use Rattle.refactor_table.specs.Names.{same_name}
+pub use Rattle.refactor_table.specs.Names.{same_name as is_same_ref_name}
 
 abbrev pub is_root_type : List ℕ → Bool
 is_root_type name = bytes_eq name (codes "Root")
-
--- the description of a type's id: 1 is the root's, and record i of the dictionary, from 0, has the id 16 + i
-abbrev pub desc_of : List TypeDesc → ℕ → Option TypeDesc
-desc_of types id = if id == 1 then Some root_type else (if nat_le 16 id then slice_get types (id - 16) else None)
-
--- the last of these records that has the name, where the first has this id
-abbrev pub latest_from : ℕ → List TypeDesc → List ℕ → Option ℕ
-latest_from id [] name = None
-latest_from id (desc ∷ types) name = or_else (latest_from (id + 1) types name) (if bytes_eq desc.name name then Some id else None)
-
--- the id of the latest type of a name
-abbrev pub latest_id : List TypeDesc → List ℕ → Option ℕ
-latest_id types name = if is_root_type name then Some 1 else latest_from 16 types name
 
 abbrev pub desc_at : List TypeDesc → Option ℕ → Option TypeDesc
 desc_at types None = None
 desc_at types (Some id) = desc_of types id
 
 abbrev pub latest_desc : List TypeDesc → List ℕ → Option TypeDesc
-latest_desc types name = desc_at types (latest_id types name)
+latest_desc types name = desc_at types (latest_of types name)
 
 -- two descriptions are one where their texts are
 abbrev pub is_same_desc : TypeDesc → TypeDesc → Bool
@@ -71,14 +59,9 @@ repeats_member (m ∷ ms) = if list_any (λ (o : Member). bytes_eq o.name m.name
 
 -- ---- refactorings
 
-abbrev pub is_same_ref_name : RefName → RefName → Bool
-is_same_ref_name (OfType t) (OfType u) = bytes_eq t u
-is_same_ref_name (OfMember t m) (OfMember u n) = bytes_eq t u && bytes_eq m n
-is_same_ref_name _ _ = false
-
 -- some pair leads from the old name to the new one
 abbrev pub leads : List Pair → RefName → RefName → Bool
-leads pairs old new = list_any (λ (p : Pair). is_same_ref_name p.old old && is_same_ref_name p.new new) pairs
+leads pairs old new = list_any (λ (p : Pair). same_name p.old old && same_name p.new new) pairs
 
 abbrev pub type_in : RefName → List ℕ
 type_in (OfType name) = name
@@ -87,7 +70,7 @@ type_in (OfMember name member) = name
 -- the new name of the pair with this old type, else the name itself
 abbrev pub target_name : List Pair → List ℕ → List ℕ
 target_name [] name = name
-target_name (p ∷ pairs) name = if is_same_ref_name p.old (OfType name) then type_in p.new else target_name pairs name
+target_name (p ∷ pairs) name = if same_name p.old (OfType name) then type_in p.new else target_name pairs name
 
 -- ---- the source of each member of a newer type
 
@@ -96,7 +79,7 @@ is_carried pairs old new from = list_any (λ (to : Member). leads pairs (OfMembe
 
 -- the old member of an explicit pair; else the old member of equal name that no pair carries to a member of the new type
 abbrev pub source_of : List Pair → TypeDesc → TypeDesc → List ℕ → Option ℕ
-source_of pairs old new name = or_else
+source_of pairs old new name = option_or
     (position (λ (m : Member). leads pairs (OfMember old.name m.name) (OfMember new.name name)) old.members)
     (position (λ (m : Member). bytes_eq m.name name && not (is_carried pairs old new m.name)) old.members)
 

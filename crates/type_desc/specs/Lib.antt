@@ -5,4 +5,5 @@ pub mod Reader
 pub mod Gives
 pub mod Grammar
 pub mod Root
+pub mod OwnNames
 pub mod Reading

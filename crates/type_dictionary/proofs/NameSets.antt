@@ -12,7 +12,7 @@ use Rattle.std.proofs.lemmas.Map.Text.{is_eq-slice_cmp}
 use Rattle.std.proofs.lemmas.Option.{slice_get-map, slice_get_within}
 use Rattle.std.proofs.lemmas.Slice.Eq.{bytes_eq-Decides}
 use Rattle.type_desc.specs.declared.desc.Member.{Member}
-use Rattle.type_dictionary.specs.OwnNames.{names_of, IsNamed, HaveOwnNames}
+use Rattle.type_desc.specs.OwnNames.{names_of, IsNamed, HaveOwnNames}
 
 -- the set has the name
 abbrev pub has_name : BTreeSet (Bor (List ℕ)) → List ℕ → Bool

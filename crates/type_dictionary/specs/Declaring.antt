@@ -1,9 +1,9 @@
 -- What declaring a type gives.
 use Rattle.std.specs.Prelude.{◌≡◌, ◌≢◌, ℕ, ◌+◌, ◌<◌, List, Some, codes, length}
 use Rattle.type_desc.specs.Grammar.{record_text}
+use Rattle.type_desc.specs.OwnNames.{HaveOwnNames}
 use Rattle.type_desc.specs.declared.desc.TypeDesc.{TypeDesc}
 use Rattle.type_dictionary.specs.Latest.{desc_of, latest_of}
-use Rattle.type_dictionary.specs.OwnNames.{HaveOwnNames}
 use Rattle.type_dictionary.specs.Records.{IsNextRecord}
 use Rattle.type_dictionary.specs.declared.declaration.Declared.{Declared}
 use Rattle.type_dictionary.specs.declared.declaration.Declared.TheVariants.{Known, New}

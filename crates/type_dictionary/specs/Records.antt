@@ -1,8 +1,8 @@
 -- What stands in the records of a dictionary, and which text is the next one.
 use Rattle.std.specs.Prelude.{◌≡◌, ◌≢◌, ℕ, ◌+◌, ◌<◌, List, [], ◌∷◌, ◌++◌, length, codes}
 use Rattle.type_desc.specs.Grammar.{IsDesc, record_text}
+use Rattle.type_desc.specs.OwnNames.{HaveOwnNames}
 use Rattle.type_desc.specs.declared.desc.TypeDesc.{TypeDesc}
-use Rattle.type_dictionary.specs.OwnNames.{HaveOwnNames}
 
 -- the names and the number of members are those that a record may have, and member names differ
 pub record IsSound (desc : TypeDesc) : Type 0 where
@@ -17,6 +17,11 @@ pub record IsRecorded (desc : TypeDesc) : Type 0 where
 -- the id is the next one, the type is not the built-in one, and its member names differ
 abbrev pub MayFollow : List TypeDesc → ℕ → TypeDesc → Type 0
 MayFollow types id desc = (id ≡ 16 + length types) × (desc.name ≢ codes "Root") × HaveOwnNames desc.members
+
+-- the records of types, of which the first has this id
+abbrev pub records_from : ℕ → List TypeDesc → List (List ℕ)
+records_from id [] = []
+records_from id (desc ∷ types) = record_text (id, desc) ∷ records_from (id + 1) types
 
 -- the text is the record of this description behind these
 pub record IsNextRecord (types : List TypeDesc) (text : List ℕ) (desc : TypeDesc) : Type 0 where

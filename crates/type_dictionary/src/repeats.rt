@@ -1,7 +1,7 @@
 //! Whether member names differ.
 
 ghost use Rattle.std.specs.Prelude.{◌↔◌, IfOk, IsTrue};
-ghost use Rattle.type_dictionary.specs.OwnNames.{HaveOwnNames};
+ghost use Rattle.type_desc.specs.OwnNames.{HaveOwnNames};
 
 use graph_model::NoMemory;
 use std::alloc::{AllocError, Global};
