@@ -1,11 +1,10 @@
 -- What a session keeps for itself, whatever a storage answers.
-use Rattle.std.specs.Prelude.{◌≡◌, true, None, is_some}
 use Rattle.lazy_refs.specs.Mappings.{AreMappings}
 use Rattle.lazy_refs.specs.Walks.{Progress}
-use Rattle.session_model.specs.Answer.{id_in}
 use Rattle.storer.specs.Gathered.{AreKnown}
-use Rattle.session.specs.Exports.{Exported}
+use Rattle.session.specs.Due.{SuitsPhase}
 use Rattle.session.specs.Loads.{IsRead}
+use Rattle.session.specs.Namings.{IsUnbound}
 use Rattle.session.specs.declared.memory.Memory.{Memory}
 use Rattle.session.specs.declared.outcome.Outcome.{Outcome}
 use Rattle.session.specs.declared.outcome.Outcome.TheVariants as outcomes
@@ -20,3 +19,31 @@ use Rattle.session.specs.declared.session.Session.{Session}
 -- each object in memory is of a known type and has values of its kinds
 abbrev pub KnowsObjects : Memory → Type 0
 KnowsObjects memory = AreKnown memory.types memory.registry.instances
+
+-- the command was read from a line; the name is free
+abbrev pub IsSteadyPurpose : Memory → Purpose → Type 0
+IsSteadyPurpose memory (purposes.Start command) = IsRead command
+IsSteadyPurpose memory (purposes.Follow new id) = IsUnbound memory.registry new
+
+-- what is loaded goes by the types and the pairs in memory
+pub record IsSteadyLoading (memory : Memory) (loading : Progress) : Type 0 where
+  pub mappings : AreMappings memory.types memory.table loading.mappings
+
+-- what a phase keeps while its reply is waited for
+abbrev pub IsSteadyPhase : Memory → Phase → Type 0
+IsSteadyPhase memory (phases.Looking loading purpose) = IsSteadyLoading memory loading × IsSteadyPurpose memory purpose
+IsSteadyPhase memory (phases.Holding purpose) = IsSteadyPurpose memory purpose
+IsSteadyPhase memory _ = Unit {0}
+
+-- what is asked is what the phase waits for, and the phase is steady
+abbrev pub IsSteadyOutcome : Memory → Outcome → Type 0
+IsSteadyOutcome memory (outcomes.Ask ask phase) = SuitsPhase ask phase × IsSteadyPhase memory phase
+IsSteadyOutcome memory _ = Unit {0}
+
+abbrev pub IsSteadyWaiting : Memory → Waiting → Type 0
+IsSteadyWaiting memory (waits.ForReply phase) = IsSteadyPhase memory phase
+IsSteadyWaiting memory _ = Unit {0}
+
+pub record IsSteady (session : Session) : Type 0 where
+  pub known : KnowsObjects session.memory
+  pub waiting : IsSteadyWaiting session.memory session.waiting
