@@ -7,13 +7,14 @@ use Rattle.std.proofs.lemmas.Slice.Eq.{bytes_eq-Decides}
 use Rattle.std.proofs.lemmas.Bool.{and_parts, and_from}
 use Rattle.std.proofs.lemmas.Option.{slice_get-map}
 use Rattle.type_desc.specs.declared.desc.Member.{Member}
-use Rattle.refactor_table.specs.Names.{AreOfOneForm}
+use Rattle.type_desc.specs.OwnNames.{IsNamed}
+use Rattle.refactor_table.specs.Names.{AreOfOneForm, same_name}
 use Rattle.refactor_table.specs.Pairs.{AreSound, Leads, pair_of}
 use Rattle.refactor_table.specs.declared.name.Pair.{Pair}
 use Rattle.refactor_table.specs.declared.name.RefName.{RefName}
 use Rattle.refactor_table.specs.declared.name.RefName.TheVariants.{OfType, OfMember}
-use Rattle.legacy_mapping.specs.Sources.{IsNamed, IsTarget}
-use Rattle.session_model.specs.Types.{is_same_ref_name, leads, type_in, target_name}
+use Rattle.legacy_mapping.specs.Sources.{IsTarget}
+use Rattle.session_model.specs.Types.{leads, type_in, target_name}
 use Rattle.lazy_refs.proofs.Finding.{any_at, any_from}
 
 pub same_bytes : (xs ys : List ℕ) → bytes_eq xs ys ≡ true → xs ≡ ys
@@ -22,7 +23,7 @@ same_bytes xs ys h = (bytes_eq-Decides xs ys).0 h
 pub bytes_same : (xs : List ℕ) → bytes_eq xs xs ≡ true
 bytes_same xs = (bytes_eq-Decides xs xs).1 refl
 
-same_ref_name : (a b : RefName) → is_same_ref_name a b ≡ true → a ≡ b
+same_ref_name : (a b : RefName) → same_name a b ≡ true → a ≡ b
 same_ref_name (OfType t) (OfType u) h = ap OfType (same_bytes t u h)
 same_ref_name (OfType t) (OfMember u n) h = absurd cc
 same_ref_name (OfMember t m) (OfType u) h = absurd cc
@@ -30,7 +31,7 @@ same_ref_name (OfMember t m) (OfMember u n) h =
     let parts = and_parts (bytes_eq t u) (bytes_eq m n) h in
     ap (λ (x : List ℕ). OfMember x m) (same_bytes t u parts.0) ∙ ap (OfMember u) (same_bytes m n parts.1)
 
-ref_name_same : (a : RefName) → is_same_ref_name a a ≡ true
+ref_name_same : (a : RefName) → same_name a a ≡ true
 ref_name_same (OfType t) = bytes_same t
 ref_name_same (OfMember t m) = and_from (bytes_eq t t) (bytes_eq m m) (bytes_same t) (bytes_same m)
 
@@ -39,15 +40,15 @@ row_is row old new e f = ap (λ (n : RefName). pair_of n row.new) e ∙ ap (pair
 
 pub leads_true : (pairs : List Pair) (old new : RefName) → leads pairs old new ≡ true → Leads pairs old new
 leads_true pairs old new h =
-    let at = any_at (λ (p : Pair). is_same_ref_name p.old old && is_same_ref_name p.new new) pairs h in
+    let at = any_at (λ (p : Pair). same_name p.old old && same_name p.new new) pairs h in
     let row = at.1.item in
-    let parts = and_parts (is_same_ref_name row.old old) (is_same_ref_name row.new new) at.1.passes in
+    let parts = and_parts (same_name row.old old) (same_name row.new new) at.1.passes in
     (at.0, at.1.is ∙ ap Some (row_is row old new (same_ref_name row.old old parts.0) (same_ref_name row.new new parts.1)))
 
 pub leads_from : (pairs : List Pair) (old new : RefName) → Leads pairs old new → leads pairs old new ≡ true
 leads_from pairs old new l =
-    any_from (λ (p : Pair). is_same_ref_name p.old old && is_same_ref_name p.new new) pairs l.0 (pair_of old new) l.1
-    (and_from (is_same_ref_name old old) (is_same_ref_name new new) (ref_name_same old) (ref_name_same new))
+    any_from (λ (p : Pair). same_name p.old old && same_name p.new new) pairs l.0 (pair_of old new) l.1
+    (and_from (same_name old old) (same_name new new) (ref_name_same old) (ref_name_same new))
 
 -- ---- members
 
@@ -70,18 +71,18 @@ data TargetRow (pairs : List Pair) (name : List ℕ) : Type 0 where
 
 target_row : (pairs : List Pair) (name : List ℕ) → TargetRow pairs name
 target_row [] name = TargetRow.Nowhere (λ k row at e. let none : None ≡ Some row = at in cc) refl
-target_row (p ∷ pairs) name = by (is_same_ref_name p.old (OfType name)) refl (target_row pairs name)
+target_row (p ∷ pairs) name = by (same_name p.old (OfType name)) refl (target_row pairs name)
   where
-    by : (b : Bool) → is_same_ref_name p.old (OfType name) ≡ b → TargetRow pairs name → TargetRow (p ∷ pairs) name
+    by : (b : Bool) → same_name p.old (OfType name) ≡ b → TargetRow pairs name → TargetRow (p ∷ pairs) name
     by true e later = TargetRow.Here zero p refl (same_ref_name p.old (OfType name) e) (rw e refl)
     by false e (TargetRow.Here k row at named to) = TargetRow.Here (suc k) row at named (rw e to)
     by false e (TargetRow.Nowhere nowhere to) = TargetRow.Nowhere (other e nowhere) (rw e to)
       where
-        other : is_same_ref_name p.old (OfType name) ≡ false → ((k : ℕ) (row : Pair) → slice_get pairs k ≡ Some row → row.old ≡ OfType name → ⊥)
+        other : same_name p.old (OfType name) ≡ false → ((k : ℕ) (row : Pair) → slice_get pairs k ≡ Some row → row.old ≡ OfType name → ⊥)
             → (k : ℕ) (row : Pair) → slice_get (p ∷ pairs) k ≡ Some row → row.old ≡ OfType name → ⊥
         other e nowhere zero row at named =
             let one : p ≡ row = cc in
-            let same : is_same_ref_name p.old (OfType name) ≡ true = ap (λ (r : Pair). is_same_ref_name r.old (OfType name)) one ∙ ap (λ (n : RefName). is_same_ref_name n (OfType name)) named ∙ ref_name_same (OfType name) in cc
+            let same : same_name p.old (OfType name) ≡ true = ap (λ (r : Pair). same_name r.old (OfType name)) one ∙ ap (λ (n : RefName). same_name n (OfType name)) named ∙ ref_name_same (OfType name) in cc
         other e nowhere (suc k) row at named = nowhere k row at named
 
 type_row : (old new : RefName) (name : List ℕ) → old ≡ OfType name → AreOfOneForm old new → new ≡ OfType (type_in new)

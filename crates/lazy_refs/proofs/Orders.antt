@@ -2,23 +2,23 @@
 use Rattle.std.proofs.Common.{◌≡◌, ℕ, Bool, true, false, cond, List, [], ◌∷◌, ◌++◌, Option, Some, None, ◌⊎◌, inl, inr, refl, sym, ap, ◌∙◌, subst}
 use Rattle.std.specs.Prelude.{nat_eq}
 use Rattle.std.proofs.lemmas.Bool.{or_cases, or_left, or_right, eq-eqb}
+use Rattle.std.specs.Option.{option_or}
 use Rattle.graph_model.specs.Ids.{has}
 use Rattle.graph_model.specs.Graph.{Graph, has_edge}
 use Rattle.graph_model.proofs.IdSets.{has_append}
 use Rattle.entity_form.specs.declared.value.Object.{Object}
-use Rattle.session_model.specs.Commands.{or_else}
 use Rattle.lazy_refs.specs.Steps.{EachNamed, IsNamed, IsOutward}
 use Rattle.lazy_refs.specs.Walks.{loaded_ids, object_at}
 
-pub or_none : {A : Type 0} (a : Option A) → or_else a None ≡ a
+pub or_none : {A : Type 0} (a : Option A) → option_or a None ≡ a
 or_none None = refl
 or_none (Some x) = refl
 
-pub object_at-append : (ps qs : List (ℕ × Object)) (x : ℕ) → object_at (ps ++ qs) x ≡ or_else (object_at ps x) (object_at qs x)
+pub object_at-append : (ps qs : List (ℕ × Object)) (x : ℕ) → object_at (ps ++ qs) x ≡ option_or (object_at ps x) (object_at qs x)
 object_at-append [] qs x = refl
 object_at-append (p ∷ ps) qs x = by (nat_eq x p.0) (object_at-append ps qs x)
   where
-    by : (b : Bool) → object_at (ps ++ qs) x ≡ or_else (object_at ps x) (object_at qs x) → cond b (Some p.1) (object_at (ps ++ qs) x) ≡ or_else (cond b (Some p.1) (object_at ps x)) (object_at qs x)
+    by : (b : Bool) → object_at (ps ++ qs) x ≡ option_or (object_at ps x) (object_at qs x) → cond b (Some p.1) (object_at (ps ++ qs) x) ≡ option_or (cond b (Some p.1) (object_at ps x)) (object_at qs x)
     by true h = refl
     by false h = h
 

@@ -3,22 +3,22 @@ use Rattle.std.proofs.Common.{◌≡◌, ℕ, zero, suc, Bool, true, false, not,
 use Rattle.std.specs.Prelude.{slice_get, option_map}
 use Rattle.std.specs.Str.{bytes_eq}
 use Rattle.std.specs.List.{AllZip, position}
-use Rattle.std.specs.Option.{ForSome}
+use Rattle.std.specs.Option.{ForSome, option_or}
 use Rattle.std.proofs.lemmas.Bool.{and_parts, and_from, not-true}
 use Rattle.std.proofs.lemmas.Option.{slice_get-map}
 use Rattle.type_desc.specs.declared.desc.Kind.{Kind}
 use Rattle.type_desc.specs.declared.desc.Kind.TheVariants as kinds
 use Rattle.type_desc.specs.declared.desc.Member.{Member}
 use Rattle.type_desc.specs.declared.desc.TypeDesc.{TypeDesc}
+use Rattle.type_desc.specs.OwnNames.{HaveOwnNames, IsNamed, names_of}
 use Rattle.entity_form.specs.Values.{kinds_of}
 use Rattle.refactor_table.specs.Pairs.{AreSound, Leads, pair_of}
 use Rattle.refactor_table.specs.declared.name.Pair.{Pair}
 use Rattle.refactor_table.specs.declared.name.RefName.TheVariants.{OfMember}
 use Rattle.legacy_mapping.specs.Conversion.{Suits}
 use Rattle.legacy_mapping.specs.Faults.{DiffersAt, HaveOneKind}
-use Rattle.legacy_mapping.specs.Sources.{AreSources, HaveOwnNames, IsAlike, IsCarried, IsNamed, IsPaired, IsSource, names_of}
+use Rattle.legacy_mapping.specs.Sources.{AreSources, IsAlike, IsCarried, IsPaired, IsSource}
 use Rattle.legacy_mapping.proofs.Plans.{source_within}
-use Rattle.session_model.specs.Commands.{or_else}
 use Rattle.session_model.specs.Types.{all_of_kinds, is_carried, is_kind, is_of_kind, is_same_kind, kind_at, leads, source_of, sources_of}
 use Rattle.lazy_refs.proofs.Finding.{Finds, PassesAt, get_missing, any_at, any_from, position_finds}
 use Rattle.lazy_refs.proofs.Naming.{bytes_same, leads_from, leads_true, named_at, named_from, same_bytes}
@@ -79,7 +79,7 @@ source_is pairs old new name = first (position (is_paired pairs old new name) ol
     second no_pair _ (Finds.Absent absent) = IsSource.none no_pair (unlike pairs old new name absent)
 
     first : (found : Option ℕ) → Finds (is_paired pairs old new name) old.members found
-        → IsSource pairs old new name (or_else found (position (is_alike pairs old new name) old.members))
+        → IsSource pairs old new name (option_or found (position (is_alike pairs old new name) old.members))
     first _ (Finds.At i at) = IsSource.paired i (at.item.name, named_from old.members i at.item at.is, leads_true pairs (OfMember old.name at.item.name) (OfMember new.name name) at.passes)
     first _ (Finds.Absent absent) = second (unpaired pairs old new name absent) (position (is_alike pairs old new name) old.members) (position_finds (is_alike pairs old new name) old.members)
 

@@ -3,6 +3,7 @@ use Rattle.std.proofs.Common.{◌≡◌, ℕ, Bool, true, false, cond, not, ◌|
 use Rattle.std.specs.Prelude.{nat_eq, is_some, option_and_then}
 use Rattle.std.specs.List.{filter}
 use Rattle.std.proofs.lemmas.Bool.{or_cases, or_left, or_right, eq-eqb, eqb-true}
+use Rattle.std.specs.Option.{option_or}
 use Rattle.graph_model.specs.Ids.{has}
 use Rattle.graph_model.specs.Graph.{Graph, edges_of, entity_of, lists}
 use Rattle.graph_model.specs.declared.entity.Entity.{Entity}
@@ -11,7 +12,6 @@ use Rattle.graph_model.proofs.Walks.{IsSearch, looks_now}
 use Rattle.type_desc.specs.declared.desc.TypeDesc.{TypeDesc}
 use Rattle.entity_form.specs.declared.value.Object.{Object}
 use Rattle.refactor_table.specs.declared.name.Pair.{Pair}
-use Rattle.session_model.specs.Commands.{or_else}
 use Rattle.session_model.specs.Instances.{Instances, has_instance}
 use Rattle.session_model.specs.Loading.{Converted, conversion, eager_refs, loading_graph}
 use Rattle.lazy_refs.specs.Steps.{IsLeast, IsNamed, IsOutward, IsWalked, object_in, object_of, reason_in, reason_of}
@@ -67,12 +67,12 @@ loads_more : (found : ℕ → Option Object) (ps : List (ℕ × Object)) (done :
     → ((x : ℕ) → object_at ps x ≡ cond (has x done) (found x) None) → (x : ℕ) → object_at (ps ++ loads_with a converted) x ≡ cond (nat_eq x a || has x done) (found x) None
 loads_more found ps done a converted new is loads x = object_at-append ps (loads_with a converted) x ∙ by (nat_eq x a) refl
   where
-    by : (b : Bool) → nat_eq x a ≡ b → or_else (object_at ps x) (object_at (loads_with a converted) x) ≡ cond (b || has x done) (found x) None
+    by : (b : Bool) → nat_eq x a ≡ b → option_or (object_at ps x) (object_at (loads_with a converted) x) ≡ cond (b || has x done) (found x) None
     by true e =
         let same : x ≡ a = eqb-true x a e in
         let none : object_at ps x ≡ None = loads x ∙ ap (λ (b : Bool). cond b (found x) None) (ap (λ (y : ℕ). has y done) same ∙ new) in
-        ap (λ (o : Option Object). or_else o (object_at (loads_with a converted) x)) none ∙ own_object a x converted e ∙ sym is ∙ ap found (sym same)
-    by false e = ap (or_else (object_at ps x)) (no_object a x converted e) ∙ or_none (object_at ps x) ∙ loads x
+        ap (λ (o : Option Object). option_or o (object_at (loads_with a converted) x)) none ∙ own_object a x converted e ∙ sym is ∙ ap found (sym same)
+    by false e = ap (option_or (object_at ps x)) (no_object a x converted e) ∙ or_none (object_at ps x) ∙ loads x
 
 outward_next : (g : Graph) (start a : ℕ) (ps : List (ℕ × Object)) (converted : Converted) → object_at ps a ≡ None
     → (loaded_ids ps ≡ []) ⊎ IsOutward g start (loaded_ids ps) → (a ≡ start) ⊎ IsNamed g (loaded_ids ps) a

@@ -4,17 +4,18 @@ use Rattle.std.specs.Prelude.{All, IsSomeAnd}
 use Rattle.std.proofs.lemmas.List.Elements.{All-push, All-same}
 use Rattle.graph_model.specs.declared.entity.Entity.{Entity}
 use Rattle.type_desc.specs.declared.desc.TypeDesc.{TypeDesc}
+use Rattle.type_dictionary.specs.Latest.{desc_of, latest_of}
 use Rattle.entity_form.specs.Reading.{values_at}
 use Rattle.entity_form.specs.Values.{AreOf, kind_of, kinds_of}
 use Rattle.entity_form.specs.declared.value.Object.{Object}
 use Rattle.entity_form.specs.declared.value.Value.{Value}
 use Rattle.entity_form.proofs.Forms.{holds_again}
 use Rattle.refactor_table.specs.declared.name.Pair.{Pair}
-use Rattle.legacy_mapping.specs.Conversion.{Suits}
+use Rattle.legacy_mapping.specs.Conversion.{Suits, converted}
 use Rattle.legacy_mapping.proofs.Conversions.{kinds-converted}
 use Rattle.session_model.specs.Instances.{Instances}
-use Rattle.session_model.specs.Types.{all_of_kinds, desc_at, desc_of, latest_id, sources_of, target_name}
-use Rattle.session_model.specs.Loading.{Converted, conversion, converted, converted_from, converted_if, converted_to, values_in}
+use Rattle.session_model.specs.Types.{all_of_kinds, desc_at, sources_of, target_name}
+use Rattle.session_model.specs.Loading.{Converted, conversion, converted_from, converted_if, converted_to, values_in}
 use Rattle.lazy_refs.specs.Forms.{IsObjectOf}
 use Rattle.lazy_refs.specs.Mappings.{AreTypedIn, IsTyped, seen}
 use Rattle.lazy_refs.specs.Steps.{IsTypedStep}
@@ -57,15 +58,15 @@ to_typed types pairs entity old new id values object are read known is = by (all
 -- what an entity becomes
 pub converted_typed : (types : List TypeDesc) (pairs : List Pair) (entity : Entity) (object made : Object) → IsObjectOf types entity object → conversion types pairs entity ≡ Converted.Loaded made → IsTyped types made
 converted_typed types pairs entity object made of is =
-    by (latest_id types (target_name pairs of.desc.name)) refl (sym (ap (converted_from types pairs entity) of.known) ∙ is)
+    by (latest_of types (target_name pairs of.desc.name)) refl (sym (ap (converted_from types pairs entity) of.known) ∙ is)
   where
     of_desc : (id : ℕ) (o : Option TypeDesc) → desc_of types id ≡ o → converted_if pairs entity of.desc (Some id) o ≡ Converted.Loaded made → IsTyped types made
     of_desc id None known e = absurd cc
     of_desc id (Some new) known e =
         to_typed types pairs entity of.desc new id object.values made of.holds.of_kinds (holds_again (kinds_of of.desc) 0 entity.refs entity.plain object.values of.holds) known e
 
-    by : (o : Option ℕ) → latest_id types (target_name pairs of.desc.name) ≡ o
-        → converted_if pairs entity of.desc (latest_id types (target_name pairs of.desc.name)) (desc_at types (latest_id types (target_name pairs of.desc.name))) ≡ Converted.Loaded made → IsTyped types made
+    by : (o : Option ℕ) → latest_of types (target_name pairs of.desc.name) ≡ o
+        → converted_if pairs entity of.desc (latest_of types (target_name pairs of.desc.name)) (desc_at types (latest_of types (target_name pairs of.desc.name))) ≡ Converted.Loaded made → IsTyped types made
     by None latest e = let none : converted_if pairs entity of.desc None None ≡ Converted.Loaded made = sym (ap (λ (o : Option ℕ). converted_if pairs entity of.desc o (desc_at types o)) latest) ∙ e in absurd cc
     by (Some id) latest e = of_desc id (desc_of types id) refl (sym (ap (λ (o : Option ℕ). converted_if pairs entity of.desc o (desc_at types o)) latest) ∙ e)
 

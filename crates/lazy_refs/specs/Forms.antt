@@ -2,10 +2,10 @@
 use Rattle.std.specs.Prelude.{◌≡◌, List, Option, Some, None}
 use Rattle.graph_model.specs.declared.entity.Entity.{Entity}
 use Rattle.type_desc.specs.declared.desc.TypeDesc.{TypeDesc}
+use Rattle.type_dictionary.specs.Latest.{desc_of}
 use Rattle.entity_form.specs.Form.{Holds}
 use Rattle.entity_form.specs.Values.{kinds_of}
 use Rattle.entity_form.specs.declared.value.Object.{Object}
-use Rattle.session_model.specs.Types.{desc_of}
 
 -- the entity's type is known, and the entity holds the values of this object of it
 pub record IsObjectOf (types : List TypeDesc) (entity : Entity) (object : Object) : Type 0 where

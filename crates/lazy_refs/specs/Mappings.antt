@@ -5,6 +5,7 @@ use Rattle.std.specs.Map.{lookup}
 use Rattle.std.specs.BTreeMap.{is_at}
 use Rattle.graph_model.specs.declared.entity.Entity.{Entity}
 use Rattle.type_desc.specs.declared.desc.TypeDesc.{TypeDesc}
+use Rattle.type_dictionary.specs.Latest.{desc_of}
 use Rattle.entity_form.specs.Reading.{values_at}
 use Rattle.entity_form.specs.Values.{AreOf, kinds_of}
 use Rattle.entity_form.specs.declared.value.Object.{Object}
@@ -12,7 +13,7 @@ use Rattle.entity_form.specs.declared.value.Value.{Value}
 use Rattle.refactor_table.specs.declared.name.Pair.{Pair}
 use Rattle.legacy_mapping.specs.Conversion.{Suits, converted}
 use Rattle.legacy_mapping.specs.Sources.{AreApart}
-use Rattle.session_model.specs.Types.{desc_of, sources_of, all_of_kinds}
+use Rattle.session_model.specs.Types.{sources_of, all_of_kinds}
 use Rattle.session_model.specs.Loading.{Converted, conversion, converted_from}
 use Rattle.lazy_refs.specs.Forms.{IsObjectOf}
 use Rattle.lazy_refs.specs.declared.mapping.Mapping.{Mapping}

@@ -1,15 +1,15 @@
 //! What always holds of the model's conversion. The bodies are empty.
 
 ghost use Rattle.std.specs.Prelude.{◌≡◌, ◌↔◌, List, Some};
+ghost use Rattle.type_desc.specs.OwnNames.{HaveOwnNames};
+ghost use Rattle.type_dictionary.specs.Latest.{desc_of};
 ghost use Rattle.entity_form.specs.Form.{Holds};
 ghost use Rattle.entity_form.specs.Values.{kinds_of};
 ghost use Rattle.entity_form.specs.declared.value.Value.{Value as AnyValue};
 ghost use Rattle.graph_model.specs.declared.entity.Entity.{Entity as AnyEntity};
-ghost use Rattle.legacy_mapping.specs.Sources.{HaveOwnNames};
 ghost use Rattle.refactor_table.specs.Pairs.{AreSound};
 ghost use Rattle.refactor_table.specs.declared.name.Pair.{Pair as AnyPair};
 ghost use Rattle.session_model.specs.Loading.{Converted, conversion};
-ghost use Rattle.session_model.specs.Types.{desc_of};
 ghost use Rattle.type_desc.specs.declared.desc.TypeDesc.{TypeDesc as AnyDesc};
 ghost use Rattle.lazy_refs.specs.Tables.{IsByTable};
 

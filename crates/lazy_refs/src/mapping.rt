@@ -1,10 +1,11 @@
 //! What becomes of the entities of a stored type.
 
 ghost use Rattle.std.specs.Prelude.{◌≡◌, ℕ, Some, IfOk, OnOk, IsSome, IsSomeAnd};
+ghost use Rattle.type_desc.specs.OwnNames.{HaveOwnNames};
+ghost use Rattle.type_dictionary.specs.Latest.{desc_of};
 ghost use Rattle.entity_form.specs.Values.{kinds_of};
-ghost use Rattle.legacy_mapping.specs.Sources.{HaveOwnNames};
 ghost use Rattle.refactor_table.specs.Pairs.{AreSound};
-ghost use Rattle.session_model.specs.Types.{desc_of, target_name};
+ghost use Rattle.session_model.specs.Types.{target_name};
 ghost use Rattle.lazy_refs.specs.Forms.{IsReadAs};
 ghost use Rattle.lazy_refs.specs.Mappings.{AreMappings, Becomes, IsMappingBetween, IsMappingFrom, IsMappingOf, IsTyped, mapping_at};
 

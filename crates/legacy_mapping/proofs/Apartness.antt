@@ -2,12 +2,13 @@
 use Rattle.std.proofs.Common.{◌≡◌, ℕ, zero, suc, List, [], ◌∷◌, take, Option, Some, refl, sym, ap, ◌∙◌, subst}
 use Rattle.std.specs.List.{AllZip}
 use Rattle.std.specs.Prelude.{slice_get}
+use Rattle.type_desc.specs.OwnNames.{HaveOwnNames, IsNamed, names_of}
 use Rattle.refactor_table.specs.Pairs.{AreSound, Leads, pair_of}
 use Rattle.refactor_table.specs.declared.name.Pair.{Pair}
 use Rattle.refactor_table.specs.declared.name.RefName.TheVariants.{OfMember}
 use Rattle.type_desc.specs.declared.desc.Member.{Member}
 use Rattle.type_desc.specs.declared.desc.TypeDesc.{TypeDesc}
-use Rattle.legacy_mapping.specs.Sources.{AreApart, HaveOwnNames, IsCarried, IsNamed, IsPaired, IsSource, names_of}
+use Rattle.legacy_mapping.specs.Sources.{AreApart, IsCarried, IsPaired, IsSource}
 
 -- what stands among the first elements
 within_front : {X : Type 0} (n : ℕ) (xs : List X) (k : ℕ) (x : X) → slice_get (take n xs) k ≡ Some x → slice_get xs k ≡ Some x

@@ -10,8 +10,8 @@ use Rattle.std.proofs.lemmas.Bool.{cases_lt}
 use Rattle.std.proofs.lemmas.Option.{slice_get-map, slice_get_within}
 use Rattle.std.proofs.lemmas.Slice.Eq.{bytes_eq-Decides}
 use Rattle.type_desc.specs.declared.desc.Member.{Member}
+use Rattle.type_desc.specs.OwnNames.{names_of, IsNamed, HaveOwnNames}
 use Rattle.legacy_mapping.specs.Positions.{position_of, ArePositions}
-use Rattle.legacy_mapping.specs.Sources.{names_of, IsNamed, HaveOwnNames}
 
 -- the positions give exactly the members before the n-th
 pub record ArePositionsBelow (members : List Member) (n : ℕ) (positions : BTreeMap (Bor (List ℕ)) ℕ) : Type 0 where

@@ -3,12 +3,13 @@ use Rattle.std.proofs.Common.{◌≡◌, ℕ, Bool, true, false, List, Option, S
 use Rattle.std.specs.Borrow.{Bor}
 use Rattle.std.specs.BTreeMap.{BTreeMap}
 use Rattle.std.specs.Prelude.{IfSome, IsSomeAnd, IsTrue, is_some, unwrap_or, ◌↔◌}
+use Rattle.type_desc.specs.OwnNames.{IsNamed}
 use Rattle.refactor_table.specs.Pairs.{Leads}
 use Rattle.refactor_table.specs.declared.name.Pair.{Pair}
 use Rattle.refactor_table.specs.declared.name.RefName.TheVariants.{OfType, OfMember}
 use Rattle.type_desc.specs.declared.desc.TypeDesc.{TypeDesc}
 use Rattle.legacy_mapping.specs.Positions.{position_of, ArePositions}
-use Rattle.legacy_mapping.specs.Sources.{IsTarget, IsNamed, IsPaired, IsCarried, IsAlike, IsSource}
+use Rattle.legacy_mapping.specs.Sources.{IsTarget, IsPaired, IsCarried, IsAlike, IsSource}
 
 pub is_target : (pairs : List Pair) (name r : Bor (List ℕ)) (found : Option (Bor (List ℕ))) → r ≡ unwrap_or found name
     → IfSome found (λ new. Leads pairs (OfType name.now) (OfType new.now))

@@ -2,7 +2,7 @@
 use Rattle.std.specs.Prelude.{ℕ, List, Option, Some, None}
 use Rattle.std.specs.List.{AllZip}
 use Rattle.type_desc.specs.declared.desc.TypeDesc.{TypeDesc}
-pub use Rattle.type_desc.specs.OwnNames.{names_of, IsNamed, HaveOwnNames}
+use Rattle.type_desc.specs.OwnNames.{names_of, IsNamed}
 use Rattle.refactor_table.specs.Pairs.{Leads}
 use Rattle.refactor_table.specs.declared.name.Pair.{Pair}
 use Rattle.refactor_table.specs.declared.name.RefName.TheVariants.{OfType, OfMember}

@@ -2,10 +2,11 @@
 
 ghost use Rattle.std.specs.Prelude.{◌≡◌, ◌≢◌, ◌<◌, List, Option, Some, ℕ, map, length, slice_get, IfOk, IfErr, OnOk, IsTrue, IsFalse};
 ghost use Rattle.std.specs.Option.{ForSome};
+ghost use Rattle.type_desc.specs.OwnNames.{HaveOwnNames};
 ghost use Rattle.entity_form.specs.Values.{kinds_of};
 ghost use Rattle.legacy_mapping.specs.Conversion.{Suits};
 ghost use Rattle.legacy_mapping.specs.Faults.{HaveOneKind, StandsAgainst};
-ghost use Rattle.legacy_mapping.specs.Sources.{AreApart, AreSources, HaveOwnNames};
+ghost use Rattle.legacy_mapping.specs.Sources.{AreApart, AreSources};
 ghost use Rattle.type_desc.specs.declared.desc.Member.{Member as AnyMember};
 
 use crate::fault::PlanFault;

@@ -1,8 +1,8 @@
 //! Members by their names.
 
 ghost use Rattle.std.specs.Prelude.{IfOk};
+ghost use Rattle.type_desc.specs.OwnNames.{HaveOwnNames};
 ghost use Rattle.legacy_mapping.specs.Positions.{ArePositions};
-ghost use Rattle.legacy_mapping.specs.Sources.{HaveOwnNames};
 
 use std::alloc::{AllocError, Global};
 use std::collections::BTreeMap;

@@ -1,8 +1,9 @@
 //! The search for the source of a member.
 
 ghost use Rattle.std.specs.Prelude.{◌≡◌, ◌↔◌, ℕ, Option, Some, IfOk, IfSome, IsTrue};
+ghost use Rattle.type_desc.specs.OwnNames.{HaveOwnNames};
 ghost use Rattle.legacy_mapping.specs.Positions.{ArePositions};
-ghost use Rattle.legacy_mapping.specs.Sources.{HaveOwnNames, IsAlike, IsCarried, IsPaired, IsSource};
+ghost use Rattle.legacy_mapping.specs.Sources.{IsAlike, IsCarried, IsPaired, IsSource};
 ghost use Rattle.refactor_table.specs.Pairs.{AreSound};
 
 use crate::positions::positions;

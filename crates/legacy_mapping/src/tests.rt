@@ -1,6 +1,6 @@
 ghost use Rattle.std.specs.Prelude.{◌≡◌, ◌∷◌, [], IfOk, IfSome};
+ghost use Rattle.type_desc.specs.OwnNames.{HaveOwnNames};
 ghost use Rattle.entity_form.specs.Values.{kinds_of};
-ghost use Rattle.legacy_mapping.specs.Sources.{HaveOwnNames};
 
 use crate::{Plan, PlanFault, convert, plan, target};
 use entity_form::{Object, Value, Values};

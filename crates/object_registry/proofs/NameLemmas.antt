@@ -14,7 +14,8 @@ use Rattle.std.proofs.lemmas.Map.Keys.{sorted_head, sorted_tail}
 use Rattle.std.proofs.lemmas.Map.Text.{is_eq-slice_cmp}
 use Rattle.std.proofs.lemmas.Slice.Eq.{bytes_eq-Decides}
 use Rattle.session_model.specs.Answer.{Binding, id_in}
-use Rattle.object_registry.specs.Bindings.{names_differ, unbound}
+use Rattle.session_model.specs.Sound.{are_distinct}
+use Rattle.object_registry.specs.Bindings.{unbound}
 use Rattle.object_registry.specs.Entries.{bindings_of}
 use Rattle.object_registry.specs.Registered.{bound_ids}
 
@@ -48,10 +49,10 @@ none_below : {Y : Type 0} (x : String Y) (es : List (String Y × ℕ)) → AllBy
 none_below x [] all = refl
 none_below x (e ∷ es) all = rw all.0 (none_below x es all.1)
 
-pub names_differ-sorted : {Y : Type 0} (es : List (String Y × ℕ)) → IsStrictlySortedBy string_cmp (keys_of es) → names_differ (bindings_of es) ≡ true
-names_differ-sorted [] s = refl
-names_differ-sorted (e ∷ es) s =
-    rw (id_in-bindings es (string_bytes e.0), none_below e.0 es (sorted_head string_cmp e.0 (keys_of es) s)) (names_differ-sorted es (sorted_tail string_cmp e.0 (keys_of es) s))
+pub are_distinct-sorted : {Y : Type 0} (es : List (String Y × ℕ)) → IsStrictlySortedBy string_cmp (keys_of es) → are_distinct (bindings_of es) ≡ true
+are_distinct-sorted [] s = refl
+are_distinct-sorted (e ∷ es) s =
+    rw (id_in-bindings es (string_bytes e.0), none_below e.0 es (sorted_head string_cmp e.0 (keys_of es) s)) (are_distinct-sorted es (sorted_tail string_cmp e.0 (keys_of es) s))
 
 pub bound_ids-bindings : {Y : Type 0} (es : List (String Y × ℕ)) → bound_ids (bindings_of es) ≡ values_of es
 bound_ids-bindings [] = refl

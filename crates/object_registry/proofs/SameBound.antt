@@ -10,7 +10,8 @@ use Rattle.session_model.specs.Answer.{Binding, id_in}
 use Rattle.session_model.specs.Instances.{Instances, Held, graph_of, kept_refs, kept_instances}
 use Rattle.session_model.proofs.Reached.{reached-same_starts}
 use Rattle.session_model.proofs.SameIds.{same_answer}
-use Rattle.object_registry.specs.Bindings.{SameNames, names_differ}
+use Rattle.session_model.specs.Sound.{are_distinct}
+use Rattle.object_registry.specs.Bindings.{SameNames}
 use Rattle.object_registry.specs.Registered.{bound_ids}
 
 -- an id that a name is bound to
@@ -27,9 +28,9 @@ none_is None e = refl
 none_is (Some x) e = absurd cc
 
 -- and the name, where none stands twice
-name_of : (bs : List Binding) → names_differ bs ≡ true → (x : ℕ) → has x (bound_ids bs) ≡ true → (name : List ℕ) × (id_in bs name ≡ Some x)
+name_of : (bs : List Binding) → are_distinct bs ≡ true → (x : ℕ) → has x (bound_ids bs) ≡ true → (name : List ℕ) × (id_in bs name ≡ Some x)
 name_of [] d x h = absurd cc
-name_of (b ∷ bs) d x h = let parts = and_parts (is_none (id_in bs b.name)) (names_differ bs) d in
+name_of (b ∷ bs) d x h = let parts = and_parts (is_none (id_in bs b.name)) (are_distinct bs) d in
     elim (or_cases (nat_eq x b.id) (has x (bound_ids bs)) h) [
       | inl same ↦ (b.name, rw ((bytes_eq-Decides b.name b.name).1 refl) (ap (λ (y : ℕ). Some y) (sym (eqb-true x b.id same))))
       | inr later ↦ let t = name_of bs parts.1 x later in
@@ -40,12 +41,12 @@ name_of (b ∷ bs) d x h = let parts = and_parts (is_none (id_in bs b.name)) (na
           (t.0, rw apart t.1)
     ]
 
-pub same_bound : (xs ys : List Binding) → names_differ xs ≡ true → names_differ ys ≡ true → SameNames xs ys → (x : ℕ) → has x (bound_ids xs) ≡ has x (bound_ids ys)
+pub same_bound : (xs ys : List Binding) → are_distinct xs ≡ true → are_distinct ys ≡ true → SameNames xs ys → (x : ℕ) → has x (bound_ids xs) ≡ has x (bound_ids ys)
 same_bound xs ys d e same x = same_answer (has x (bound_ids xs)) (has x (bound_ids ys))
     (λ h. let t = name_of xs d x h in bound_has ys t.0 x (sym (same t.0) ∙ t.1))
     (λ h. let t = name_of ys e x h in bound_has xs t.0 x (same t.0 ∙ t.1))
 
-pub kept_by_same_names : (is : Instances) (xs ys : List Binding) → names_differ xs ≡ true → names_differ ys ≡ true → SameNames xs ys
+pub kept_by_same_names : (is : Instances) (xs ys : List Binding) → are_distinct xs ≡ true → are_distinct ys ≡ true → SameNames xs ys
     → kept_instances is (bound_ids xs) ≡ kept_instances is (bound_ids ys)
 kept_by_same_names is xs ys d e same =
     ap (λ (kept : List ℕ). filter (λ (h : Held). has h.id kept) is) (reached-same_starts (graph_of kept_refs is) (bound_ids xs) (bound_ids ys) (same_bound xs ys d e same))

@@ -1,5 +1,5 @@
 -- Names that are bound to ids.
-use Rattle.std.specs.Prelude.{◌≡◌, ℕ, Bool, true, not, ◌&&◌, is_none, Some, None, List, [], ◌∷◌}
+use Rattle.std.specs.Prelude.{◌≡◌, ℕ, not, Some, None, List}
 use Rattle.std.specs.List.{filter}
 use Rattle.std.specs.Str.{bytes_eq}
 use Rattle.session_model.specs.Answer.{Binding, id_in}
@@ -16,11 +16,6 @@ binding name id = record { name = name; id = id }
 -- without the name
 abbrev pub unbound : List ℕ → List Binding → List Binding
 unbound name names = filter (λ (b : Binding). not (bytes_eq b.name name)) names
-
--- no name stands twice
-abbrev pub names_differ : List Binding → Bool
-names_differ [] = true
-names_differ (b ∷ bs) = is_none (id_in bs b.name) && names_differ bs
 
 -- the name is taken by exactly this id, or it is free and memory ran out
 abbrev pub IsRefused : List Binding → List ℕ → BindFault → Type 0

@@ -4,7 +4,8 @@ ghost use Rattle.std.specs.Prelude.{◌≡◌, ◌∷◌, None, IfOk, OnOk, OnEr
 ghost use Rattle.std.specs.String.{string_cmp};
 ghost use Rattle.std.specs.BTreeMap.{IsOrdered};
 ghost use Rattle.session_model.specs.Answer.{id_in};
-ghost use Rattle.object_registry.specs.Bindings.{SameNames, binding, names_differ, unbound};
+ghost use Rattle.session_model.specs.Sound.{are_distinct};
+ghost use Rattle.object_registry.specs.Bindings.{SameNames, binding, unbound};
 ghost use Rattle.object_registry.specs.Entries.{bindings_of};
 ghost use Rattle.object_registry.specs.Registered.{bound_ids};
 

@@ -4,7 +4,8 @@ ghost use Rattle.std.specs.Prelude.{◌≡◌, ◌-◌, ◌<◌, ◌&&◌, ◌++
 ghost use Rattle.graph_model.specs.Ids.{has, rises};
 ghost use Rattle.session_model.specs.Answer.{id_in, saved_instances, without_at};
 ghost use Rattle.session_model.specs.Instances.{held_ids, instance_at, kept_instances, put_instance};
-ghost use Rattle.object_registry.specs.Bindings.{SameNames, IsRefused, binding, names_differ, unbound};
+ghost use Rattle.session_model.specs.Sound.{are_distinct};
+ghost use Rattle.object_registry.specs.Bindings.{SameNames, IsRefused, binding, unbound};
 ghost use Rattle.object_registry.specs.Registered.{ChangesRefs, HasRefAt, HasRefs, bound_ids, instance_ids, put_loaded, unsaved, with_member};
 
 use crate::fault::BindFault;
@@ -63,7 +64,7 @@ impl Registry {
     /// The id that a name is bound to.
     pub fn id_of(&self, name: &Text) -> Option<u64>
         ensures found { result ≡ id_in self.now.names name.now }
-        ensures once { IsTrue (names_differ self.now.names) }
+        ensures once { IsTrue (are_distinct self.now.names) }
     {
         names::find(&self.names, name.as_str())
     }
@@ -162,7 +163,7 @@ impl Registry {
         ensures order { IfOk result (λ f. IsTrue (rises f.released)) }
         ensures err { OnErr result (self.new.instances ≡ self.old.instances) }
         ensures names { self.new.names ≡ self.old.names }
-        ensures once { IsTrue (names_differ self.old.names) }
+        ensures once { IsTrue (are_distinct self.old.names) }
     {
         let kept = kept_ids(self.alloc, &self.names, &self.instances)?;
         let released = released(self.alloc, &self.instances, &kept)?;

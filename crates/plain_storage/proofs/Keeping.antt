@@ -5,22 +5,22 @@ use Rattle.store_io.specs.Disk.{Only}
 use Rattle.gated_log.specs.Log.{payloads_of, IsLogOf, IsBeforeOrAfter, Each}
 use Rattle.type_desc.specs.Grammar.{record_text}
 use Rattle.type_desc.specs.declared.desc.TypeDesc.{TypeDesc}
-use Rattle.type_dictionary.specs.Records.{IsNextRecord, IsRecorded}
-use Rattle.plain_storage.specs.Types.{types_header, type_records, AreTypesHeld}
+use Rattle.type_dictionary.specs.Records.{IsNextRecord, IsRecorded, records_from}
+use Rattle.plain_storage.specs.Types.{types_header, AreTypesHeld}
 use Rattle.plain_storage.proofs.Opening.{file_payloads}
 
 abbrev one_record : ℕ → TypeDesc → List (List ℕ)
 one_record id desc = record_text (id, desc) ∷ []
 
 -- the record of a type behind others
-pub type_records-push : (id : ℕ) (types : List TypeDesc) (desc : TypeDesc) → type_records id (types ++ desc ∷ []) ≡ type_records id types ++ record_text (id + length types, desc) ∷ []
-type_records-push id [] desc =
+pub records_from-push : (id : ℕ) (types : List TypeDesc) (desc : TypeDesc) → records_from id (types ++ desc ∷ []) ≡ records_from id types ++ record_text (id + length types, desc) ∷ []
+records_from-push id [] desc =
     let same : id ≡ id + 0 = omega arith in
     ap (λ n. one_record n desc) same
-type_records-push id (first ∷ types) desc =
+records_from-push id (first ∷ types) desc =
     let same : (id + 1) + length types ≡ id + length (first ∷ types) = omega arith in
     ap (λ (l : List (List ℕ)). record_text (id, first) ∷ l)
-    (type_records-push (id + 1) types desc ∙ ap (λ n. type_records (id + 1) types ++ record_text (n, desc) ∷ []) same)
+    (records_from-push (id + 1) types desc ∙ ap (λ n. records_from (id + 1) types ++ record_text (n, desc) ∷ []) same)
 
 pub recorded-push : (types : List TypeDesc) (desc : TypeDesc) → AllByRecursion IsRecorded types → IsRecorded desc → AllByRecursion IsRecorded (types ++ desc ∷ [])
 recorded-push [] desc each last = (last, tt)
@@ -30,9 +30,9 @@ recorded-push (first ∷ types) desc each last = (each.0, recorded-push types de
 pub holds_more : (file text image : List ℕ) (types : List TypeDesc) (desc : TypeDesc) → AreTypesHeld file types → IsNextRecord types text desc
     → IsLogOf types_header (payloads_of file ++ text ∷ []) image → AreTypesHeld image (types ++ desc ∷ [])
 holds_more file text image types desc held next log =
-    let before = file_payloads types_header (type_records 16 types) file held.log in
-    let all : payloads_of file ++ text ∷ [] ≡ type_records 16 (types ++ desc ∷ []) =
-    ap (λ (ps : List (List ℕ)). ps ++ text ∷ []) before ∙ ap (λ (t : List ℕ). type_records 16 types ++ t ∷ []) next.spelled ∙ sym (type_records-push 16 types desc) in
+    let before = file_payloads types_header (records_from 16 types) file held.log in
+    let all : payloads_of file ++ text ∷ [] ≡ records_from 16 (types ++ desc ∷ []) =
+    ap (λ (ps : List (List ℕ)). ps ++ text ∷ []) before ∙ ap (λ (t : List ℕ). records_from 16 types ++ t ∷ []) next.spelled ∙ sym (records_from-push 16 types desc) in
     record {
       few = omega (arith, next.room, length-append types (desc ∷ []));
       recorded = recorded-push types desc held.recorded next.recorded;
@@ -44,7 +44,7 @@ pub holds_same : (file image : List ℕ) (types : List TypeDesc) → AreTypesHel
 holds_same file image types held log = record {
   few = held.few;
   recorded = held.recorded;
-  log = inr (subst (λ (ps : List (List ℕ)). IsLogOf types_header ps image) (file_payloads types_header (type_records 16 types) file held.log) log);
+  log = inr (subst (λ (ps : List (List ℕ)). IsLogOf types_header ps image) (file_payloads types_header (records_from 16 types) file held.log) log);
 }
 
 pub holds_either : (file text image : List ℕ) (types : List TypeDesc) (desc : TypeDesc) → AreTypesHeld file types → IsNextRecord types text desc

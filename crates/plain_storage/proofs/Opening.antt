@@ -7,10 +7,10 @@ use Rattle.gated_log.specs.declared.opening.LogFault.{LogFault}
 use Rattle.gated_log.specs.declared.opening.LogFault.TheVariants.{Fault, Header, Cut}
 use Rattle.std.specs.List.{AllByRecursion}
 use Rattle.type_desc.specs.declared.desc.TypeDesc.{TypeDesc}
-use Rattle.type_dictionary.specs.Records.{IsRecorded}
+use Rattle.type_dictionary.specs.Records.{IsRecorded, records_from}
 use Rattle.plain_storage.specs.Faults.{log_fault}
 use Rattle.plain_storage.specs.Logs.{IsLogFile}
-use Rattle.plain_storage.specs.Types.{types_header, type_records, AreTypesHeld, AreRecords}
+use Rattle.plain_storage.specs.Types.{types_header, AreTypesHeld, AreRecords}
 use Rattle.plain_storage.specs.declared.fault.OpenFault.{OpenFault}
 use Rattle.plain_storage.specs.declared.fault.OpenFault.TheVariants as open_
 
@@ -43,13 +43,13 @@ records_of_file file types held = record {
   types_are = refl;
   few = held.few;
   recorded = held.recorded;
-  spelled = file_payloads types_header (type_records 16 types) file held.log;
+  spelled = file_payloads types_header (records_from 16 types) file held.log;
 }
 
 -- a file whose payloads are records of types holds these
 pub file_of_records : (file : List ℕ) (types : List TypeDesc) → AreRecords [] (payloads_of file) types → IsLogFile types_header (payloads_of file) file → AreTypesHeld file types
 file_of_records file types these log =
-    let spelled : payloads_of file ≡ type_records 16 types = these.spelled ∙ ap (type_records 16) (sym these.types_are) in
+    let spelled : payloads_of file ≡ records_from 16 types = these.spelled ∙ ap (records_from 16) (sym these.types_are) in
     record {
       few = these.few;
       recorded = subst (λ (l : List TypeDesc). AllByRecursion IsRecorded l) (sym these.types_are) these.recorded;
@@ -61,7 +61,7 @@ pub not_held : (file : List ℕ) → ((9 < length file) × IsNoLog types_header 
     → (types : List TypeDesc) → AreTypesHeld file types → ⊥
 not_held file fault types held =
     ⊎_elim
-    (λ no_log. ⊎_elim (λ short. absurd (omega (arith, short.0, no_log.0))) (λ log. no_log.1 (type_records 16 types) log) held.log)
+    (λ no_log. ⊎_elim (λ short. absurd (omega (arith, short.0, no_log.0))) (λ log. no_log.1 (records_from 16 types) log) held.log)
     (λ none. none types (records_of_file file types held))
     fault
 

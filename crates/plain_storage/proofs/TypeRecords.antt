@@ -3,8 +3,8 @@ use Rattle.std.proofs.Common.{◌≡◌, ◌≤◌, ◌+◌, ◌++◌, [], ◌�
 use Rattle.std.specs.List.{AllByRecursion}
 use Rattle.type_desc.specs.Grammar.{record_text}
 use Rattle.type_desc.specs.declared.desc.TypeDesc.{TypeDesc}
-use Rattle.type_dictionary.specs.Records.{IsNextRecord, IsRecorded}
-use Rattle.plain_storage.specs.Types.{type_records, AreRecords}
+use Rattle.type_dictionary.specs.Records.{IsNextRecord, IsRecorded, records_from}
+use Rattle.plain_storage.specs.Types.{AreRecords}
 
 one_longer : (before : List TypeDesc) (desc : TypeDesc) → (16 + length before) + 1 ≡ 16 + length (before ++ desc ∷ [])
 one_longer before desc = omega (arith, length-append before (desc ∷ []))
@@ -18,7 +18,7 @@ records_more before desc payload rest types next others = record {
   few = others.few;
   recorded = (next.recorded, others.recorded);
   spelled = ap (λ (p : List ℕ). p ∷ rest) next.spelled
-      ∙ ap (λ (ps : List (List ℕ)). record_text (16 + length before, desc) ∷ ps) (others.spelled ∙ ap (λ n. type_records n others.more) (sym (one_longer before desc)));
+      ∙ ap (λ (ps : List (List ℕ)). record_text (16 + length before, desc) ∷ ps) (others.spelled ∙ ap (λ n. records_from n others.more) (sym (one_longer before desc)));
 }
 
 -- no record is left
@@ -40,7 +40,7 @@ pub record IsFirstType (before : List TypeDesc) (payload : List ℕ) (rest : Lis
   pub others : AreRecords (before ++ desc ∷ []) rest types
 
 first_of_types : (before : List TypeDesc) (payload : List ℕ) (rest : List (List ℕ)) (types more : List TypeDesc) → types ≡ before ++ more → length types ≤ 65536 → AllByRecursion IsRecorded more
-    → payload ∷ rest ≡ type_records (16 + length before) more → IsFirstType before payload rest types
+    → payload ∷ rest ≡ records_from (16 + length before) more → IsFirstType before payload rest types
 first_of_types before payload rest types [] types_are few recorded spelled = absurd (no_payload payload rest spelled)
   where
     no_payload : (payload : List ℕ) (rest : List (List ℕ)) → ◌≡◌ {A = List (List ℕ)} (payload ∷ rest) [] → ⊥
@@ -53,18 +53,18 @@ first_of_types before payload rest types (desc ∷ more) types_are few recorded 
     types_are = types_are ∙ sym (append_assoc before (desc ∷ []) more);
     few = few;
     recorded = recorded.1;
-    spelled = ap tails spelled ∙ ap (λ n. type_records n more) (one_longer before desc);
+    spelled = ap tails spelled ∙ ap (λ n. records_from n more) (one_longer before desc);
   };
 }
 
 pub first_type : (before : List TypeDesc) (payload : List ℕ) (rest : List (List ℕ)) (types : List TypeDesc) → AreRecords before (payload ∷ rest) types → IsFirstType before payload rest types
 first_type before payload rest types these = first_of_types before payload rest types these.more these.types_are these.few these.recorded these.spelled
 
-end_of_types : (before types more : List TypeDesc) (id : ℕ) → types ≡ before ++ more → ◌≡◌ {A = List (List ℕ)} [] (type_records id more) → types ≡ before
+end_of_types : (before types more : List TypeDesc) (id : ℕ) → types ≡ before ++ more → ◌≡◌ {A = List (List ℕ)} [] (records_from id more) → types ≡ before
 end_of_types before types [] id types_are spelled = types_are ∙ append-nil before
 end_of_types before types (desc ∷ more) id types_are spelled = absurd (no_payload spelled)
   where
-    no_payload : ◌≡◌ {A = List (List ℕ)} [] (record_text (id, desc) ∷ type_records (id + 1) more) → ⊥
+    no_payload : ◌≡◌ {A = List (List ℕ)} [] (record_text (id, desc) ∷ records_from (id + 1) more) → ⊥
     no_payload is = cc
 
 pub types_ended : (before types : List TypeDesc) → AreRecords before [] types → types ≡ before

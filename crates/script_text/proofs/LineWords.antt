@@ -6,9 +6,10 @@ use Rattle.std.specs.Str.{bytes_eq, is_utf8}
 use Rattle.std.proofs.lemmas.Bool.{eqb-true}
 use Rattle.std.proofs.lemmas.List.{append-nil}
 use Rattle.std.proofs.lemmas.Str.{IsUtf8-append, IsUtf8-from_ascii, IsUtf8-from_is_utf8, IsUtf8-past_char, IsAscii-append, encode_ascii, is_utf8-from_IsUtf8}
+use Rattle.std.specs.Option.{option_or}
 use Rattle.type_desc.specs.declared.desc.NameKind.TheVariants as names
 use Rattle.type_desc.proofs.Readers.{chosen, choose_true}
-use Rattle.session_model.specs.Commands.{◌>>=◌, or_else, with_byte, words_of, cut_at, front_words, name_of, member_name_of, Command, SetMember, Row, rows, by_rows, by_first, set_line, set_of, command_in, command_of}
+use Rattle.session_model.specs.Commands.{◌>>=◌, with_byte, words_of, cut_at, front_words, name_of, member_name_of, Command, SetMember, Row, rows, by_rows, by_first, set_line, set_of, command_in, command_of}
 use Rattle.script_text.specs.Arguments.{OfValue, Arguments, Words, Description, Pair, Value, IsArguments, words_in, arguments_text, shape_of}
 use Rattle.script_text.specs.Fields.{spaced}
 use Rattle.script_text.specs.Keywords.{keyword_text}
@@ -269,7 +270,7 @@ set_spelled text c utf8 e =
 
 -- ---- whole lines
 
-either_makes : (first second : Option Command) (c : Command) → or_else first second ≡ Some c → (first ≡ Some c) ⊎ (second ≡ Some c)
+either_makes : (first second : Option Command) (c : Command) → option_or first second ≡ Some c → (first ≡ Some c) ⊎ (second ≡ Some c)
 either_makes None second c e = inr e
 either_makes (Some x) second c e = inl e
 
@@ -354,7 +355,7 @@ set_line_makes (Pair old new) is = absurd is
 set_line_makes (Value name member rest) is =
     let text = codes "set" ++ arguments_text (Value name member rest) in
     choose_true (is_utf8 text) (command_in text) None (Some (SetMember name member rest)) (value_utf8 name member rest is)
-    (ap (λ (o : Option Command). or_else o (by_first (words_of text))) (value_makes name member rest is))
+    (ap (λ (o : Option Command). option_or o (by_first (words_of text))) (value_makes name member rest is))
 
 -- a keyword and its arguments are a line that makes their command
 pub line_makes : (k : Keyword) (a : Arguments) → IsArguments (shape_of k) a → command_of (keyword_text k ++ arguments_text a) ≡ Some (command_made k a)

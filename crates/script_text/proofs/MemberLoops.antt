@@ -6,7 +6,8 @@ use Rattle.type_desc.specs.declared.fault.ReadFault.{ReadFault}
 use Rattle.type_desc.specs.declared.fault.ReadFault.TheVariants as faults
 use Rattle.type_desc.specs.Reader.{Reading, ◌>>=◌}
 use Rattle.type_desc.specs.Gives.{Stops}
-use Rattle.script_text.specs.Arguments.{member_at, members_at, with_front}
+use Rattle.type_desc.specs.Reading.{with_front}
+use Rattle.script_text.specs.Arguments.{member_at, members_at}
 
 pub no_front : (reading : Reading (List Member)) → with_front [] reading ≡ reading
 no_front (Ok x) = refl

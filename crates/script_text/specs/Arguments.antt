@@ -95,10 +95,6 @@ members_at (suc most) text =
     (λ t. byte_at 32 t >>= λ space. member_at space.1 >>= λ first. members_at most first.1 >>= λ others. Ok (first.0 ∷ others.0, others.1))
     (λ t. Ok ([], t)) text
 
--- what was read before, and what is still read
-abbrev pub with_front : List Member → Reading (List Member) → Reading (List Member)
-with_front front reading = reading >>= λ x. Ok (front ++ x.0, x.1)
-
 unfoldable pub description_at : List ℕ → Reading Arguments
 description_at text = do
   name ← spaced_at fields.TypeName text

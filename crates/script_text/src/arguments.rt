@@ -10,7 +10,6 @@ ghost use Rattle.script_text.specs.Arguments.{
   type_members_at,
   types_at,
   value_at,
-  with_front,
 };
 ghost use Rattle.script_text.specs.Fields.{words_at};
 ghost use Rattle.script_text.specs.Lines.{command_at, made_of};
@@ -19,6 +18,7 @@ ghost use Rattle.script_text.specs.declared.fields.Field.TheVariants as fields;
 ghost use Rattle.script_text.specs.declared.keywords.Keyword.TheVariants as keys;
 ghost use Rattle.std.specs.Prelude.{◌≡◌, [], ◌∷◌, IfOk, IsAscii};
 ghost use Rattle.type_desc.specs.Gives.{Gives};
+ghost use Rattle.type_desc.specs.Reading.{with_front};
 
 use crate::command::{Command, Index, Target};
 use crate::fields::{Field, spaced_index, spaced_word};

@@ -9,7 +9,7 @@ use Rattle.graph_model.specs.Graph.{Graph, edges, entity_of, lists}
 use Rattle.graph_model.specs.declared.entity.Entity.{Entity}
 use Rattle.graph_model.proofs.IdSets.{has_append}
 use Rattle.type_desc.specs.declared.desc.TypeDesc.{TypeDesc}
-use Rattle.session_model.specs.Types.{desc_of}
+use Rattle.type_dictionary.specs.Latest.{desc_of}
 use Rattle.session_model.specs.Answer.{State, export_turn, exported}
 use Rattle.session.specs.Exports.{Exported, IsExporting, IsFresh, IsInStage, IsLine, IsLineOf, IsTelling, IsWalking, due, line_at, looked, no_entity, reached_from_root, starts}
 use Rattle.session.specs.declared.exporting.Stage.{Stage}

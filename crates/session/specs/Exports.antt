@@ -5,10 +5,10 @@ use Rattle.graph_model.specs.Ids.{has, insert, rises}
 use Rattle.graph_model.specs.Graph.{Graph, IsReached, edges, entity_of, has_edge, lists}
 use Rattle.graph_model.specs.declared.entity.Entity.{Entity}
 use Rattle.type_desc.specs.declared.desc.TypeDesc.{TypeDesc}
+use Rattle.type_dictionary.specs.Latest.{desc_of}
 use Rattle.entity_form.specs.Form.{Holds}
 use Rattle.entity_form.specs.Values.{kinds_of}
 use Rattle.entity_form.specs.declared.value.Value.{Value}
-use Rattle.session_model.specs.Types.{desc_of}
 use Rattle.session_model.specs.Answer.{State, Turn, export_turn, exported, reached_records}
 use Rattle.session_model.specs.Sound.{IsRightGraph}
 use Rattle.graph_model.specs.Served.{Storage}

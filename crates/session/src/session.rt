@@ -3,11 +3,12 @@
 ghost use Rattle.std.specs.Prelude.{◌≡◌, ◌≤◌, ◌<◌, ◌^◌, ℕ, Bool, List, [], length, IfOk};
 ghost use Rattle.graph_model.specs.Graph.{Graph, lists};
 ghost use Rattle.graph_model.specs.Served.{SameIds, Storage};
+ghost use Rattle.type_dictionary.specs.Records.{records_from};
 ghost use Rattle.session_model.specs.Answer.{Turn as TurnDue, opened};
 ghost use Rattle.session_model.specs.Sound.{AreTypes, IsRightGraph};
 ghost use Rattle.session.specs.Dealing.{AfterPrint, AfterReply, AwaitsLine, BeginsLine, ComesNearer, Gives, MayGive};
 ghost use Rattle.session.specs.Due.{Meets};
-ghost use Rattle.session.specs.Stands.{Admits, StandsAt, records_from};
+ghost use Rattle.session.specs.Stands.{Admits, StandsAt};
 ghost use Rattle.session.specs.Steps.{outcome_steps, steps_left};
 
 use crate::export_line::export_behind;

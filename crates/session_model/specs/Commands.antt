@@ -4,7 +4,6 @@ use Rattle.std.specs.List.{list_all}
 use Rattle.std.specs.Char.{is_ascii_digit}
 use Rattle.std.specs.Str.{bytes_eq, is_utf8}
 use Rattle.std.specs.Option.{option_or}
-pub use Rattle.std.specs.Option.{option_or as or_else}
 use Rattle.type_desc.specs.Reader.{Reading}
 use Rattle.type_desc.specs.Reading.{name_at}
 use Rattle.type_desc.specs.declared.desc.Kind.{Kind}

@@ -12,7 +12,7 @@ use Rattle.entity_form.specs.Values.{kinds_of}
 use Rattle.entity_form.specs.declared.value.Object.{Object}
 use Rattle.entity_form.specs.declared.value.Value.{Value}
 use Rattle.refactor_table.specs.declared.name.Pair.{Pair}
-pub use Rattle.legacy_mapping.specs.Conversion.{value_from, converted}
+use Rattle.legacy_mapping.specs.Conversion.{converted}
 use Rattle.session_model.specs.Types.{latest_desc, target_name, sources_of, all_of_kinds}
 use Rattle.session_model.specs.Instances.{Instances, put_instance, has_instance, eager_refs_of, reached}
 

@@ -8,14 +8,11 @@ use Rattle.type_desc.specs.declared.desc.Kind.{Kind}
 use Rattle.type_desc.specs.declared.desc.Kind.TheVariants as kinds
 use Rattle.type_desc.specs.declared.desc.Member.{Member}
 use Rattle.type_desc.specs.declared.desc.TypeDesc.{TypeDesc}
-use Rattle.type_dictionary.specs.Latest.{latest_of}
-pub use Rattle.type_dictionary.specs.Latest.{desc_of, latest_from, latest_of as latest_id}
-pub use Rattle.type_desc.specs.Root.{root_desc as root_type}
+use Rattle.type_dictionary.specs.Latest.{desc_of, latest_of}
 use Rattle.refactor_table.specs.declared.name.Pair.{Pair}
 use Rattle.refactor_table.specs.declared.name.RefName.{RefName}
 use Rattle.refactor_table.specs.declared.name.RefName.TheVariants.{OfType, OfMember}
 use Rattle.refactor_table.specs.Names.{same_name}
-pub use Rattle.refactor_table.specs.Names.{same_name as is_same_ref_name}
 
 abbrev pub is_root_type : List ℕ → Bool
 is_root_type name = bytes_eq name (codes "Root")

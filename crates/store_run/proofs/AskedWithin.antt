@@ -8,11 +8,10 @@ use Rattle.graph_model.specs.Graph.{after, put_all}
 use Rattle.graph_model.specs.Served.{Served}
 use Rattle.graph_model.specs.Stores.{total_size}
 use Rattle.type_desc.specs.declared.desc.TypeDesc.{TypeDesc}
-use Rattle.type_dictionary.specs.Records.{IsNextRecord}
+use Rattle.type_dictionary.specs.Records.{IsNextRecord, records_from}
 use Rattle.session_model.specs.Answer.{Turn}
 use Rattle.session.specs.Dealing.{Asks, Gives}
 use Rattle.session.specs.Due.{rest_of, without}
-use Rattle.session.specs.Stands.{records_from}
 use Rattle.session.specs.declared.session.Session.{Session}
 use Rattle.session.specs.declared.session.Turn.{Turn as Step}
 use Rattle.session.specs.declared.session.Turn.TheVariants as step

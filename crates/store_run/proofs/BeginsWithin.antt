@@ -1,10 +1,11 @@
 -- A line begins: all of its turn is due.
 use Rattle.std.proofs.Common.{◌≡◌, ◌<◌, ℕ, Bool, false, IsTrue, Some, List, [], refl, inl, sym, ap, ◌∙◌, arith, append-nil}
 use Rattle.graph_model.specs.Served.{Storage}
+use Rattle.type_dictionary.specs.Records.{records_from}
 use Rattle.session_model.specs.Answer.{State, Turn, turn}
 use Rattle.session.specs.Dealing.{ComesNearer, MayGive}
 use Rattle.session.specs.Limits.{most_bytes}
-use Rattle.session.specs.Stands.{Admits, records_from}
+use Rattle.session.specs.Stands.{Admits}
 use Rattle.session.specs.declared.session.Given.{Given}
 use Rattle.session.specs.declared.session.Given.TheVariants as given
 use Rattle.session.specs.declared.session.Session.{Session}

@@ -5,10 +5,10 @@ use Rattle.graph_model.specs.declared.ask.Ask.{Ask}
 use Rattle.graph_model.specs.declared.ask.Ask.TheVariants as asks
 use Rattle.graph_model.specs.declared.entity.StoreOp.{StoreOp}
 use Rattle.graph_model.specs.Served.{Storage}
+use Rattle.type_dictionary.specs.Records.{records_from}
 use Rattle.session_model.specs.Answer.{Turn}
 use Rattle.session.specs.Dealing.{Gives, Prints}
 use Rattle.session.specs.Due.{IsDue}
-use Rattle.session.specs.Stands.{records_from}
 use Rattle.session.specs.declared.session.Session.{Session}
 use Rattle.session.specs.declared.session.Turn.TheVariants as step
 use Rattle.plain_storage.specs.Held.{IsPlainStored, PlainHeld}

@@ -11,9 +11,11 @@ use Rattle.graph_model.specs.declared.entity.Entity.{Entity}
 use Rattle.graph_model.specs.Stores.{total_size}
 use Rattle.type_desc.specs.Grammar.{IsDesc, record_text}
 use Rattle.type_desc.specs.declared.desc.TypeDesc.{TypeDesc}
+use Rattle.type_dictionary.specs.Latest.{latest_of}
+use Rattle.refactor_table.specs.Names.{same_name}
 use Rattle.session_model.specs.Commands as cmd
 use Rattle.session_model.specs.Commands.{Command, Target, command_of}
-use Rattle.session_model.specs.Types.{is_root_type, is_same_ref_name, latest_id, repeats_member, type_in}
+use Rattle.session_model.specs.Types.{is_root_type, repeats_member, type_in}
 use Rattle.session_model.specs.Instances.{Instances, gathered_eagerly, gathered_lazily}
 use Rattle.session_model.specs.Answer.{Refusal, State, Turn, answered, are_too_big, collect_turn, command_turn, export_turn, first_instances, forget_turn, gathered_records, given, id_of, is_known, judged, loaded_turn, needs_start, nothing, ref_in, refs_in}
 use Rattle.session_model.specs.Answer.{refused, root_target, started_turn, store_turn, stored, target_id, turn, turn_of, type_known, type_new, type_turn, value_of, with_loaded}
@@ -117,11 +119,11 @@ command_makes : (state : State) (number next_id : ℕ) (command : Command) → I
 command_makes state n x (cmd.DeclareType desc) proper = type_makes state n x desc proper
 command_makes state n x (cmd.Refactor old new) proper = judged_quiet (held_at state n x) state
     (reserved (is_root_type (type_in old) || is_root_type (type_in new))
-    ∷ duplicate (list_any (λ p. is_same_ref_name p.old old || is_same_ref_name p.new new) state.pairs)
+    ∷ duplicate (list_any (λ p. same_name p.old old || same_name p.new new) state.pairs)
     ∷ wrong_kind (differs state old new)
     ∷ []) _ refl refl refl refl
 command_makes state n x (cmd.New name type_name) proper = judged_quiet (held_at state n x) state
-    (reserved (is_root_name name || is_root_type type_name) ∷ name_taken (is_bound state name) ∷ no_type (is_none (latest_id state.types type_name)) ∷ is_full (nat_le (2 ^ 48) state.next_id) ∷ [])
+    (reserved (is_root_name name || is_root_type type_name) ∷ name_taken (is_bound state name) ∷ no_type (is_none (latest_of state.types type_name)) ∷ is_full (nat_le (2 ^ 48) state.next_id) ∷ [])
     _ refl refl refl refl
 command_makes state n x (cmd.SetMember name member rest) proper =
     let value = given state rest (value_of state name member) in

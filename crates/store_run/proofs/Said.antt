@@ -5,6 +5,8 @@ use Rattle.graph_model.specs.Graph.{Graph, lists}
 use Rattle.graph_model.specs.declared.entity.Record.{Record}
 use Rattle.graph_model.specs.declared.entity.StoreOp.{StoreOp}
 use Rattle.type_desc.specs.declared.desc.TypeDesc.{TypeDesc}
+use Rattle.type_desc.specs.Root.{root_desc}
+use Rattle.type_dictionary.specs.Latest.{desc_of, latest_of}
 use Rattle.entity_form.specs.declared.value.Object.{Object}
 use Rattle.entity_form.specs.Reading.{values_at}
 use Rattle.entity_form.specs.Values.{kinds_of}
@@ -14,7 +16,7 @@ use Rattle.session_model.specs.Commands.{Command, command_of}
 use Rattle.session_model.specs.Instances.{Instances, gathered_eagerly, gathered_lazily, has_instance, put_instance}
 use Rattle.session_model.specs.Loading.{Converted, Loaded, NoType, WrongKind, closure_of, conversion, load, load_all, then_load, values_in}
 use Rattle.session_model.specs.Answer.{State, Turn, answered, collect_turn, command_turn, desc_of_instance, export_turn, first_instances, follow_turn, forget_turn, fresh, id_of, is_known, loaded_turn, named_instance, needs_start, no_desc, reached_records, refused, show_turn, started_turn, store_turn, stored, turn, turn_of, type_known, type_new, type_turn, with_loaded}
-use Rattle.session_model.specs.Types.{desc_of, is_root_type, latest_id, repeats_member, root_type}
+use Rattle.session_model.specs.Types.{is_root_type, repeats_member}
 use Rattle.session.specs.Limits.{most_bytes}
 use Rattle.graph_export.specs.Line.{HasNoFeed}
 use Rattle.store_run.specs.Lines.{AllHaveNoFeed, ended}
@@ -76,7 +78,7 @@ either_plain true t u h k = h
 either_plain false t u h k = k
 
 first_plain : (state : State) → HasPlainCode (first_instances state)
-first_plain state = either_plain (lists state.graph 1) (load state.types state.pairs state.graph [] 1) (Ok (put_instance 1 (fresh 1 root_type) [])) (load_plain state [] 1) tt
+first_plain state = either_plain (lists state.graph 1) (load state.types state.pairs state.graph [] 1) (Ok (put_instance 1 (fresh 1 root_desc) [])) (load_plain state [] 1) tt
 
 with_loaded_plain : (state : State) (id : ℕ) → HasPlainCode (with_loaded state id)
 with_loaded_plain state id =
@@ -156,7 +158,7 @@ said_type state desc =
   where
     declared : IsSaid (if is_known state desc then type_known state desc else type_new state desc)
     declared = said_if (is_known state desc) (type_known state desc) (type_new state desc)
-        (said_number (type_known state desc) (codes "type ") (unwrap_or (latest_id state.types desc.name) 0) refl refl refl)
+        (said_number (type_known state desc) (codes "type ") (unwrap_or (latest_of state.types desc.name) 0) refl refl refl)
         (said_number (type_new state desc) (codes "type ") (16 + length state.types) refl refl refl)
 
 said_new : (made : State) (id : ℕ) → IsSaid (answered made (codes "new " ++ decimal id))

@@ -1,16 +1,12 @@
 -- The lines of a text.
 use Rattle.std.specs.Prelude.{ℕ, ◌==◌, if◌then◌else◌, List, [], ◌∷◌, ◌++◌}
 use Rattle.graph_export.specs.Line.{HasNoFeed}
-
--- one byte more in front of the first line, or of a line that begins with it
-abbrev pub with_first : ℕ → List (List ℕ) → List (List ℕ)
-with_first b [] = (b ∷ []) ∷ []
-with_first b (line ∷ lines) = (b ∷ line) ∷ lines
+use Rattle.session_model.specs.Commands.{with_byte}
 
 -- A line ends with a line feed, which is no part of it. A last line without one counts where it has a byte.
 abbrev pub lines_of : List ℕ → List (List ℕ)
 lines_of [] = []
-lines_of (b ∷ bytes) = if b == 10 then [] ∷ lines_of bytes else with_first b (lines_of bytes)
+lines_of (b ∷ bytes) = if b == 10 then [] ∷ lines_of bytes else with_byte b (lines_of bytes)
 
 -- one byte more in front of the first line, if there is one
 abbrev pub with_front : ℕ → List (List ℕ) → List (List ℕ)

@@ -5,10 +5,9 @@ use Rattle.graph_model.specs.Graph.{put_all}
 use Rattle.graph_model.specs.Served.{Storage}
 use Rattle.graph_model.specs.Stores.{total_size}
 use Rattle.type_desc.specs.declared.desc.TypeDesc.{TypeDesc}
-use Rattle.type_dictionary.specs.Records.{IsNextRecord}
+use Rattle.type_dictionary.specs.Records.{IsNextRecord, records_from}
 use Rattle.session_model.specs.Answer.{Turn}
 use Rattle.session.specs.Dealing.{AwaitsLine, IsDone, MayGive}
-use Rattle.session.specs.Stands.{records_from}
 use Rattle.session.specs.declared.session.Given.{Given}
 use Rattle.session.specs.declared.session.Given.TheVariants as given
 use Rattle.session.specs.declared.session.Session.{Session}

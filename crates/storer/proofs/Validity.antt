@@ -9,11 +9,11 @@ use Rattle.graph_model.specs.Graph.{Graph, edges, entity_size, has_edge, ids, li
 use Rattle.graph_model.specs.Stores.{is_good_edge, is_good_id, is_good_record, is_held_or_root, is_old_edge, is_valid_store, total_size}
 use Rattle.graph_model.specs.declared.entity.Record.{Record}
 use Rattle.graph_model.specs.declared.entity.StoreOp.{StoreOp}
+use Rattle.type_desc.specs.Root.{root_desc}
 use Rattle.entity_form.specs.Values as form
 use Rattle.entity_form.specs.Values.{AreOf, kinds_of, refs_of}
 use Rattle.entity_form.specs.declared.value.Object.{Object}
 use Rattle.type_dictionary.specs.declared.dictionary.Dictionary.{Dictionary}
-use Rattle.session_model.specs.Types.{root_type}
 use Rattle.session_model.specs.Instances.{Instance, Instances, Held, has_instance, held_ids, instance_at}
 use Rattle.session_model.specs.Answer.{are_too_big, gathered_records}
 use Rattle.session_model.proofs.Reached.{reached-closed, reached-start}
@@ -142,7 +142,7 @@ known_type : (types : Dictionary) (object : Object) → IsKnown types object →
 known_type types object known = by (nat_eq object.type_id 1) refl (nat_le 16 object.type_id) refl known
   where
     by : (b : Bool) → nat_eq object.type_id 1 ≡ b → (c : Bool) → nat_le 16 object.type_id ≡ c
-        → IsSomeAnd (cond b (Some root_type) (cond c (slice_get types (object.type_id - 16)) None)) (λ desc. AreOf (kinds_of desc) object.values) → 1 ≤ object.type_id
+        → IsSomeAnd (cond b (Some root_desc) (cond c (slice_get types (object.type_id - 16)) None)) (λ desc. AreOf (kinds_of desc) object.values) → 1 ≤ object.type_id
     by true e c f k = let same = eqb-true object.type_id 1 e in omega arith
     by false e true f k = let low = leb-true 16 object.type_id f in omega arith
     by false e false f k = absurd k

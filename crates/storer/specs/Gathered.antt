@@ -4,9 +4,9 @@ use Rattle.std.specs.List.{filter, flat_map}
 use Rattle.graph_model.specs.Graph.{Graph}
 use Rattle.graph_model.specs.declared.entity.Record.{Record}
 use Rattle.type_dictionary.specs.declared.dictionary.Dictionary.{Dictionary}
+use Rattle.type_dictionary.specs.Latest.{desc_of}
 use Rattle.entity_form.specs.Values.{AreOf, entity_of, kinds_of, refs_of}
 use Rattle.entity_form.specs.declared.value.Object.{Object}
-use Rattle.session_model.specs.Types.{desc_of}
 use Rattle.session_model.specs.Instances.{Instance, Instances, graph_of, instance_at, is_unsaved, reached}
 use Rattle.storer.specs.declared.gathering.Gathering.{Gathering}
 use Rattle.storer.specs.declared.gathering.Gathering.TheVariants.{Lazy, Eager}

@@ -1,4 +1,3 @@
-pub mod OwnNames
 pub mod Latest
 pub mod Records
 pub mod Kept

@@ -3,9 +3,10 @@ use Rattle.std.proofs.Common.{◌≡◌, ◌<◌, ◌++◌, ◌∷◌, [], List,
 use Rattle.std.specs.Prelude.{slice_get}
 use Rattle.std.proofs.lemmas.List.{take_all}
 use Rattle.std.proofs.lemmas.Option.{slice_get_read, slice_get_within}
+use Rattle.type_desc.specs.OwnNames.{names_of}
 use Rattle.entity_form.specs.Values.{kinds_of}
 use Rattle.type_desc.specs.declared.desc.Member.{Member}
-use Rattle.legacy_mapping.specs.Sources.{AreApart, IsSource, names_of}
+use Rattle.legacy_mapping.specs.Sources.{AreApart, IsSource}
 use Rattle.legacy_mapping.proofs.PositionLemmas.{length-names}
 use Rattle.legacy_mapping.proofs.Plans.{planned_more, first_differing, source_within}
 use Rattle.legacy_mapping.proofs.planning.plan.Goals as goal

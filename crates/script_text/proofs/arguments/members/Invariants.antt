@@ -1,5 +1,6 @@
 use Rattle.std.proofs.Common.{◌≡◌, ◌-◌}
-use Rattle.script_text.specs.Arguments.{members_at, with_front}
+use Rattle.type_desc.specs.Reading.{with_front}
+use Rattle.script_text.specs.Arguments.{members_at}
 use Rattle.script_text.proofs.arguments.members.Given as goal
 
 abbrev pub invariant-spaces : goal.invariant-spaces

@@ -1,9 +1,9 @@
 -- One line is answered, or the run ends within it.
 use Rattle.std.proofs.Common.{◌≡◌, ℕ, true, false, Option, Some, List, refl, subst, arith}
+use Rattle.type_dictionary.specs.Records.{records_from}
 use Rattle.session_model.specs.Answer.{turn}
 use Rattle.session.specs.Dealing.{Gives}
 use Rattle.session.specs.Limits.{most_bytes}
-use Rattle.session.specs.Stands.{records_from}
 use Rattle.session.specs.Steps.{steps_left}
 use Rattle.session.specs.declared.session.Given.TheVariants as given
 use Rattle.plain_storage.specs.Keeping.{held_in, storage_of}

@@ -1,8 +1,9 @@
 -- A session over what was opened stands at its start.
 use Rattle.std.proofs.Common.{◌≡◌, ℕ, IfOk, refl, subst, sym, arith}
+use Rattle.type_dictionary.specs.Records.{records_from}
 use Rattle.session_model.specs.Answer.{opened}
 use Rattle.session_model.specs.Sound.{IsRightGraph}
-use Rattle.session.specs.Stands.{StandsAt, records_from}
+use Rattle.session.specs.Stands.{StandsAt}
 use Rattle.plain_storage.specs.Keeping.{held_in, storage_of}
 use Rattle.store_run.specs.Answer.{opened_on}
 use Rattle.store_run.proofs.Opened.{first_at, none_held, right_graph, right_types}
