@@ -9,8 +9,7 @@ pub empty_files : IsPlainStored [] [] nothing_held
 empty_files = record {
   types = record { few = omega arith; recorded = tt; log = inl (omega arith, refl) };
   stores = [];
-  follow = tt;
-  log = inl (omega arith, refl);
+  log = record { follow = tt; log = inl (omega arith, refl) };
   graph = refl;
   number = refl;
   next_id = refl;

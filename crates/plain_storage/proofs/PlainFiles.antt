@@ -34,18 +34,18 @@ one_list image a b log also = sym (file_payloads plain_header (payloads_of_store
 
 -- the log of stores in what the images hold
 pub stores_in : (image0 image1 : List ℕ) (held : PlainHeld) → IsPlainStored image0 image1 held → AreStoresHeld image0 held.next_id held.graph
-stores_in image0 image1 held stored = record { stores = stored.stores; follow = stored.follow; log = stored.log; next_is = stored.next_id; made = stored.graph }
+stores_in image0 image1 held stored = record { stores = stored.stores; log = stored.log; next_is = stored.next_id; made = stored.graph }
 
 -- an image holds one graph
 pub graph_held_once : (image : List ℕ) (next_id next_id' : ℕ) (graph graph' : Graph) → AreStoresHeld image next_id graph → AreStoresHeld image next_id' graph' → graph ≡ graph'
 graph_held_once image next_id next_id' graph graph' held also =
-    let same = stores_once 1 1024 1024 (payloads_of_stores 1 held.stores) held.stores also.stores held.follow also.follow refl (one_list image held.stores also.stores held.log also.log) in
+    let same = stores_once 1 1024 1024 (payloads_of_stores 1 held.stores) held.stores also.stores held.log.follow also.log.follow refl (one_list image held.stores also.stores held.log.log also.log.log) in
     held.made ∙ ap (λ (ops : List StoreOp). after [] ops) same ∙ sym also.made
 
 -- the images hold one thing at most
 pub plain_once : (image0 image1 : List ℕ) (held other : PlainHeld) → IsPlainStored image0 image1 held → IsPlainStored image0 image1 other → held ≡ other
 plain_once image0 image1 held other stored also =
-    let same = stores_once 1 1024 1024 (payloads_of_stores 1 stored.stores) stored.stores also.stores stored.follow also.follow refl (one_list image0 stored.stores also.stores stored.log also.log) in
+    let same = stores_once 1 1024 1024 (payloads_of_stores 1 stored.stores) stored.stores also.stores stored.log.follow also.log.follow refl (one_list image0 stored.stores also.stores stored.log.log also.log.log) in
     let types : held.types ≡ other.types = types_held_once image1 held.types other.types stored.types also.types in
     let graph : held.graph ≡ other.graph = stored.graph ∙ ap (λ (ops : List StoreOp). after [] ops) same ∙ sym also.graph in
     let number : held.number ≡ other.number = stored.number ∙ ap (λ (ops : List StoreOp). length ops) same ∙ sym also.number in
@@ -58,10 +58,9 @@ pub plain_stored : (image0 image1 : List ℕ) (types : List TypeDesc) (graph : G
 plain_stored image0 image1 types graph next_id held stores sound = record {
   types = held;
   stores = stores.stores;
-  follow = stores.follow;
   log = stores.log;
   graph = stores.made;
-  number = ap length (file_payloads plain_header (payloads_of_stores 1 stores.stores) image0 stores.log) ∙ length-payloads_of_stores 1 stores.stores;
+  number = ap length (file_payloads plain_header (payloads_of_stores 1 stores.stores) image0 stores.log.log) ∙ length-payloads_of_stores 1 stores.stores;
   next_id = stores.next_is;
   sound = sound;
 }
@@ -79,8 +78,10 @@ pub stored_too : (reads : ℕ → List ℕ) (image0 image1 : List ℕ) (held : P
 stored_too reads image0 image1 held stored same = record {
   types = holds_too (reads 1) image1 held.types stored.types same.types.payloads same.types.log;
   stores = stored.stores;
-  follow = stored.follow;
-  log = subst (λ (ps : List (List ℕ)). IsLogFile plain_header ps image0) (same.stores.payloads ∙ file_payloads plain_header (payloads_of_stores 1 stored.stores) (reads 0) stored.log) same.stores.log;
+  log = record {
+    follow = stored.log.follow;
+    log = subst (λ (ps : List (List ℕ)). IsLogFile plain_header ps image0) (same.stores.payloads ∙ file_payloads plain_header (payloads_of_stores 1 stored.stores) (reads 0) stored.log.log) same.stores.log;
+  };
   graph = stored.graph;
   number = stored.number;
   next_id = stored.next_id;
@@ -93,6 +94,6 @@ log_of header payloads file log = subst (λ (ps : List (List ℕ)). IsLogFile he
 -- files that hold something are logs of their payloads
 pub logs_here : (reads : ℕ → List ℕ) (held : PlainHeld) → IsPlainStored (reads 0) (reads 1) held → AreSameLogs reads (reads 0) (reads 1)
 logs_here reads held stored = record {
-  stores = record { payloads = refl; log = log_of plain_header (payloads_of_stores 1 stored.stores) (reads 0) stored.log };
+  stores = record { payloads = refl; log = log_of plain_header (payloads_of_stores 1 stored.stores) (reads 0) stored.log.log };
   types = record { payloads = refl; log = log_of types_header _ (reads 1) stored.types.log };
 }

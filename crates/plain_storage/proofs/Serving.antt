@@ -12,24 +12,19 @@ use Rattle.plain_storage.specs.Held.{IsPlainStored, PlainHeld}
 use Rattle.plain_storage.specs.Images.{AreClean, EachPair}
 use Rattle.plain_storage.specs.Keeping.{HoldsEither, IsWithStore, IsWithType, Keeps, Plain, held_in}
 use Rattle.plain_storage.specs.Logs.{IsOpen}
-use Rattle.plain_storage.specs.Serving.{HoldsStores}
-use Rattle.plain_storage.specs.Stores.{last_next_id, plain_header}
+use Rattle.plain_storage.specs.Stores.{HoldsStores, last_next_id, plain_header}
 use Rattle.plain_storage.specs.Types.{AreTypesHeld, types_header}
 use Rattle.plain_storage.proofs.StoresKept.{last_next_id-push}
 use Rattle.plain_storage.proofs.TypesKept.{sound_with_type}
 
 -- ---- one store more
 
-stores_of : (f0 f1 : List ℕ) (held : PlainHeld) (s : IsPlainStored f0 f1 held) → HoldsStores f0 s.stores
-stores_of f0 f1 held s = record { follow = s.follow; log = s.log }
-
 -- images of the same stores and the same types hold the same
 held_again : (f0 f1 image0 image1 : List ℕ) (held : PlainHeld) (s : IsPlainStored f0 f1 held) → HoldsStores image0 s.stores → AreTypesHeld image1 held.types → IsPlainStored image0 image1 held
 held_again f0 f1 image0 image1 held s stores types = record {
   types = types;
   stores = s.stores;
-  follow = stores.follow;
-  log = stores.log;
+  log = stores;
   graph = s.graph;
   number = s.number;
   next_id = s.next_id;
@@ -42,8 +37,7 @@ held_with_store : (f0 f1 image0 image1 : List ℕ) (held next : PlainHeld) (op :
 held_with_store f0 f1 image0 image1 held next op s stores types with = subst (λ (n : PlainHeld). IsPlainStored image0 image1 n) (sym with.next_is) (record {
   types = types;
   stores = s.stores ++ op ∷ [];
-  follow = stores.follow;
-  log = stores.log;
+  log = stores;
   graph = ap (put_all op.records) s.graph ∙ sym (after_append [] s.stores op);
   number = omega (arith, s.number, length-append s.stores (op ∷ []));
   next_id = sym (last_next_id-push 1024 s.stores op);
@@ -56,8 +50,7 @@ held_with_type : (f0 f1 image0 image1 text : List ℕ) (held next : PlainHeld) (
 held_with_type f0 f1 image0 image1 text held next s with stores types = subst (λ (n : PlainHeld). IsPlainStored image0 image1 n) (sym with.next_is) (record {
   types = types;
   stores = s.stores;
-  follow = stores.follow;
-  log = stores.log;
+  log = stores;
   graph = s.graph;
   number = s.number;
   next_id = s.next_id;
@@ -86,7 +79,7 @@ module _ (r r' : ℕ → List ℕ) (lv lv' : ℕ → List ℕ → Bool) where
             types = subst (λ (l : LogState). IsOpen 1 types_header l (r' 1)) (sym same) (subst (λ (f : List ℕ). IsOpen 1 types_header p.types_log f) (sym reads_types) keeps.are_open.types);
           };
           stored = held_with_store (r 0) (r 1) (r' 0) (r' 1) (held_in p types) (held_in q next_types) op stored
-              (kept stored.stores (stores_of (r 0) (r 1) (held_in p types) stored) (omega (arith, stored.next_id, no_less)))
+              (kept stored.stores stored.log (omega (arith, stored.next_id, no_less)))
               (subst (λ (f : List ℕ). AreTypesHeld f types) (sym reads_types) stored.types) with;
         }
 
@@ -99,7 +92,7 @@ module _ (r r' : ℕ → List ℕ) (lv lv' : ℕ → List ℕ → Bool) where
         ⊎_elim
         (λ stores. inl (held_again (r 0) (r 1) image0 image1 held stored stores types))
         (λ stores. inr (held_with_store (r 0) (r 1) image0 image1 held next op stored stores types with))
-        (stop stored.stores (stores_of (r 0) (r 1) held stored) (omega (arith, stored.next_id, no_less)) image0 left0)
+        (stop stored.stores stored.log (omega (arith, stored.next_id, no_less)) image0 left0)
 
   -- ---- where file 1 was written
 
@@ -116,7 +109,7 @@ module _ (r r' : ℕ → List ℕ) (lv lv' : ℕ → List ℕ → Bool) where
             types = open_log;
           };
           stored = held_with_type (r 0) (r 1) (r' 0) (r' 1) text (held_in p types) (held_in q next_types) stored with
-              (subst (λ (f : List ℕ). HoldsStores f stored.stores) (sym reads_stores) (stores_of (r 0) (r 1) (held_in p types) stored))
+              (subst (λ (f : List ℕ). HoldsStores f stored.stores) (sym reads_stores) stored.log)
               (kept with.desc stored.types with.record_);
         }
 
@@ -125,7 +118,7 @@ module _ (r r' : ℕ → List ℕ) (lv lv' : ℕ → List ℕ → Bool) where
         → IsWithType text held next → EachPair lv' (HoldsEither held next)
     type_stops held next clean stored stop with image0 image1 left0 left1 =
         let is : image0 ≡ r 0 = clean.stores image0 (subst (λ (l : List ℕ → Bool). IsTrue (l image0)) (others.leaves 0 zero-one) left0) in
-        let stores = subst (λ (f : List ℕ). HoldsStores f stored.stores) (sym is) (stores_of (r 0) (r 1) held stored) in
+        let stores = subst (λ (f : List ℕ). HoldsStores f stored.stores) (sym is) stored.log in
         ⊎_elim
         (λ types. inl (held_again (r 0) (r 1) image0 image1 held stored stores types))
         (λ types. inr (held_with_type (r 0) (r 1) image0 image1 text held next stored with stores types))

@@ -12,8 +12,8 @@ use Rattle.plain_storage.proofs.Opening.{file_payloads}
 pub stores_of_file : (file : List ℕ) (next_id : ℕ) (graph : Graph) → AreStoresHeld file next_id graph → AreStores 1 1024 (payloads_of file) next_id [] graph
 stores_of_file file next_id graph held = record {
   stores = held.stores;
-  follow = held.follow;
-  spelled = file_payloads plain_header (payloads_of_stores 1 held.stores) file held.log;
+  follow = held.log.follow;
+  spelled = file_payloads plain_header (payloads_of_stores 1 held.stores) file held.log.log;
   next_is = held.next_is;
   made = held.made;
 }
@@ -22,8 +22,7 @@ stores_of_file file next_id graph held = record {
 pub file_of_stores : (file : List ℕ) (next_id : ℕ) (graph : Graph) → AreStores 1 1024 (payloads_of file) next_id [] graph → IsLogFile plain_header (payloads_of file) file → AreStoresHeld file next_id graph
 file_of_stores file next_id graph these log = record {
   stores = these.stores;
-  follow = these.follow;
-  log = subst (λ (ps : List (List ℕ)). IsLogFile plain_header ps file) these.spelled log;
+  log = record { follow = these.follow; log = subst (λ (ps : List (List ℕ)). IsLogFile plain_header ps file) these.spelled log };
   next_is = these.next_is;
   made = these.made;
 }
@@ -33,7 +32,7 @@ pub no_stores : (file : List ℕ) → ((9 < length file) × IsNoLog plain_header
     → (next_id : ℕ) (graph : Graph) → AreStoresHeld file next_id graph → ⊥
 no_stores file fault next_id graph held =
     ⊎_elim
-    (λ no_log. ⊎_elim (λ short. absurd (omega (arith, short.0, no_log.0))) (λ log. no_log.1 (payloads_of_stores 1 held.stores) log) held.log)
+    (λ no_log. ⊎_elim (λ short. absurd (omega (arith, short.0, no_log.0))) (λ log. no_log.1 (payloads_of_stores 1 held.stores) log) held.log.log)
     (λ none. none next_id graph (stores_of_file file next_id graph held))
     fault
 

@@ -5,11 +5,14 @@ use Rattle.std.proofs.lemmas.List.Sums.{sum_by-cons}
 use Rattle.gated_log.specs.Log.{payloads_of, IsLogOf, IsBeforeOrAfter}
 use Rattle.gated_log.specs.Of.{IsOf}
 use Rattle.gated_log.specs.State.{LogState}
+use Rattle.gated_log.specs.declared.log.AppendFault.{AppendFault}
+use Rattle.gated_log.specs.declared.log.AppendFault.TheVariants as appending
+use Rattle.graph_model.specs.declared.ask.StorageFault.TheVariants as asking
 use Rattle.graph_model.specs.Stores.{is_good_id}
 use Rattle.graph_model.specs.declared.entity.Record.{Record}
 use Rattle.graph_model.specs.declared.entity.StoreOp.{StoreOp}
-use Rattle.plain_storage.specs.Serving.{HoldsStores, HasSpelling, IsGoodStore, IsNextStore}
-use Rattle.plain_storage.specs.Stores.{AllMayFollow, IsObject, MayFollow, last_next_id, payload_of, payloads_of_stores, plain_header}
+use Rattle.plain_storage.specs.Serving.{HasSpelling, IsGoodStore, IsNextStore, asked_fault}
+use Rattle.plain_storage.specs.Stores.{AllMayFollow, HoldsStores, IsObject, MayFollow, last_next_id, payload_of, payloads_of_stores, plain_header}
 use Rattle.plain_storage.proofs.Opening.{file_payloads}
 
 abbrev one_payload : ℕ → StoreOp → List (List ℕ)
@@ -75,6 +78,14 @@ few_payloads (p ∷ payloads) = omega (arith, sum_by-cons (λ (payload : List �
 
 pub count_below : (log : LogState) (file : List ℕ) → IsOf log file → log.count < log.length
 count_below log file is = omega (arith, is.count, is.long, few_payloads (payloads_of file))
+
+-- where a fault is told as `Full`, the number is the one that is due
+pub full_number : (log : LogState) (file : List ℕ) (fault : AppendFault) (due number : ℕ) → IsOf log file → (log.count < log.length → due ≡ log.count + 1) → asked_fault due fault ≡ asking.Full number
+    → number ≡ log.count + 1
+full_number log file appending.Fault due number is next told = absurd cc
+full_number log file (appending.Full at) due number is next told =
+    let same : due ≡ number = cc in
+    sym same ∙ next (count_below log file is)
 
 -- ---- a good store may follow
 

@@ -8,9 +8,8 @@ use Rattle.entity_form.specs.Values.{kinds_of}
 use Rattle.entity_form.specs.declared.value.Value.{Value}
 use Rattle.type_desc.specs.declared.desc.TypeDesc.{TypeDesc}
 use Rattle.type_dictionary.specs.Latest.{desc_of}
-use Rattle.plain_storage.specs.Logs.{IsLogFile}
 use Rattle.plain_storage.specs.Types.{AreTypesHeld}
-use Rattle.plain_storage.specs.Stores.{plain_header, payloads_of_stores, AllMayFollow, last_next_id}
+use Rattle.plain_storage.specs.Stores.{HoldsStores, last_next_id}
 
 pub record PlainHeld : Type 0 where
   pub types : List TypeDesc
@@ -35,8 +34,7 @@ pub record IsSoundGraph (types : List TypeDesc) (graph : Graph) : Type 0 where
 pub record IsPlainStored (image0 image1 : List ℕ) (held : PlainHeld) : Type 0 where
   pub types : AreTypesHeld image1 held.types
   pub stores : List StoreOp
-  pub follow : AllMayFollow 1024 stores
-  pub log : IsLogFile plain_header (payloads_of_stores 1 stores) image0
+  pub log : HoldsStores image0 stores
   pub graph : held.graph ≡ after [] stores
   pub number : held.number ≡ length stores
   pub next_id : held.next_id ≡ last_next_id 1024 stores

@@ -13,7 +13,7 @@ use Rattle.gated_log.specs.State.{LogState}
 use Rattle.type_desc.specs.declared.desc.TypeDesc.{TypeDesc}
 use Rattle.type_dictionary.specs.Records.{IsNextRecord, IsRecorded}
 use Rattle.plain_storage.specs.Held.{IsPlainStored, IsSoundGraph, PlainHeld}
-use Rattle.plain_storage.specs.Logs.{IsOpen}
+use Rattle.plain_storage.specs.Logs.{IsOpen, IsOverLimit}
 use Rattle.plain_storage.specs.Stores.{plain_header}
 use Rattle.plain_storage.specs.Types.{types_header}
 
@@ -101,8 +101,8 @@ IsNext _ held next = next ≡ held
 abbrev pub HoldsEither : PlainHeld → PlainHeld → List ℕ → List ℕ → Type 0
 HoldsEither held next image0 image1 = IsPlainStored image0 image1 held ⊎ IsPlainStored image0 image1 next
 
--- asks that write
-abbrev pub Writes : Ask → Type 0
-Writes (asks.Store op) = Unit {0}
-Writes (asks.KeepType bytes) = Unit {0}
-Writes _ = ⊥
+-- what is asked is to be kept in a log that is over its limit: a store in file 0, a type in file 1
+abbrev pub IsOverFull : Ask → (ℕ → List ℕ) → Type 0
+IsOverFull (asks.Store op) reads = IsOverLimit (reads 0)
+IsOverFull (asks.KeepType bytes) reads = IsOverLimit (reads 1)
+IsOverFull _ reads = ⊥

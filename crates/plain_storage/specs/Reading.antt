@@ -9,8 +9,7 @@ use Rattle.graph_model.specs.declared.entity.Record.{Record}
 use Rattle.graph_model.specs.declared.entity.StoreOp.{StoreOp}
 use Rattle.type_desc.specs.declared.desc.TypeDesc.{TypeDesc}
 use Rattle.plain_storage.specs.Held.{HasKnownForm}
-use Rattle.plain_storage.specs.Logs.{IsLogFile}
-use Rattle.plain_storage.specs.Stores.{plain_header, record_bytes, payload_of, payloads_of_stores, IsObject, MayFollow, AllMayFollow, last_next_id}
+use Rattle.plain_storage.specs.Stores.{HoldsStores, record_bytes, payload_of, payloads_of_stores, IsObject, MayFollow, AllMayFollow, last_next_id}
 
 -- the records, put one after another
 abbrev pub put_each : List Record → Graph → Graph
@@ -44,8 +43,7 @@ pub record AreStores (number before : ℕ) (payloads : List (List ℕ)) (next_id
 -- the image is the log of stores that leave this next id and this graph
 pub record AreStoresHeld (image : List ℕ) (next_id : ℕ) (graph : Graph) : Type 0 where
   pub stores : List StoreOp
-  pub follow : AllMayFollow 1024 stores
-  pub log : IsLogFile plain_header (payloads_of_stores 1 stores) image
+  pub log : HoldsStores image stores
   pub next_is : next_id ≡ last_next_id 1024 stores
   pub made : graph ≡ after [] stores
 

@@ -13,8 +13,7 @@ use Rattle.graph_model.specs.declared.ask.StorageFault.TheVariants as asking
 use Rattle.graph_model.specs.declared.entity.Record.{Record}
 use Rattle.graph_model.specs.declared.entity.StoreOp.{StoreOp}
 use Rattle.plain_storage.specs.Keeping.{Plain}
-use Rattle.plain_storage.specs.Logs.{IsLogFile}
-use Rattle.plain_storage.specs.Stores.{AllMayFollow, MayFollow, last_next_id, payload_of, payloads_of_stores, plain_header}
+use Rattle.plain_storage.specs.Stores.{MayFollow, last_next_id, payload_of}
 
 -- n is how many ids of the graph are reached from the root and the held ids
 pub record IsKeptCount (graph : Graph) (held : List ℕ) (n : ℕ) : Type 0 where
@@ -41,11 +40,6 @@ pub record IsGoodStore (op : StoreOp) : Type 0 where
   pub good_ids : AllByRecursion (λ r. is_good_id op.next_id r.id ≡ true) op.records
   pub fits : total_size op.records ≤ 1048560
   pub most : op.next_id ≤ 2 ^ 48
-
--- the image of file 0 holds these stores
-pub record HoldsStores (image : List ℕ) (stores : List StoreOp) : Type 0 where
-  pub follow : AllMayFollow 1024 stores
-  pub log : IsLogFile plain_header (payloads_of_stores 1 stores) image
 
 -- the payload is that of a store that may follow these, with the next number
 pub record IsNextStore (stores : List StoreOp) (payload : List ℕ) (op : StoreOp) : Type 0 where

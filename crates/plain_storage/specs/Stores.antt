@@ -7,6 +7,7 @@ use Rattle.graph_model.specs.Graph.{ids}
 use Rattle.graph_model.specs.Ids.{rises}
 use Rattle.graph_model.specs.Stores.{is_good_id}
 use Rattle.entity_form.specs.Spelling.{IsEntity, numbers_bytes, entity_bytes}
+use Rattle.plain_storage.specs.Logs.{IsLogFile}
 
 -- what a file with the plain log of a session begins with: ESP1, version 2
 abbrev pub plain_header : List ℕ
@@ -46,3 +47,8 @@ AllMayFollow before (op ∷ ops) = MayFollow before op × AllMayFollow op.next_i
 abbrev pub last_next_id : ℕ → List StoreOp → ℕ
 last_next_id next_id [] = next_id
 last_next_id next_id (op ∷ ops) = last_next_id op.next_id ops
+
+-- the image is the log of these stores, of which each may follow the one before
+pub record HoldsStores (image : List ℕ) (stores : List StoreOp) : Type 0 where
+  pub follow : AllMayFollow 1024 stores
+  pub log : IsLogFile plain_header (payloads_of_stores 1 stores) image

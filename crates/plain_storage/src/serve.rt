@@ -1,15 +1,15 @@
 //! What a session asks is served.
 
-ghost use Rattle.std.specs.Prelude.{◌≡◌, ◌≤◌, ◌<◌, ◌-◌, ◌^◌, ◌⊎◌, ◌++◌, [], ◌∷◌, true, ℕ, List, IsTrue, length, IfOk, OnOk, IfErr, IsErrOf};
+ghost use Rattle.std.specs.Prelude.{◌≡◌, ◌≤◌, ◌<◌, ◌+◌, ◌++◌, [], ◌∷◌, true, ℕ, List, IsTrue, length, IfOk, OnOk, IfErr, IsErrOf};
 ghost use Rattle.store_io.specs.Disk.{Rose};
-ghost use Rattle.gated_log.specs.Log.{length_of, payloads_of};
 ghost use Rattle.graph_model.specs.Graph.{lists};
 ghost use Rattle.graph_model.specs.Served.{Collects, Holds, KeepsType, Looks, Releases, Served, Stores};
 ghost use Rattle.graph_model.specs.declared.ask.StorageFault.{StorageFault as AnyFault};
 ghost use Rattle.type_desc.specs.declared.desc.TypeDesc.{TypeDesc as AnyDesc};
 ghost use Rattle.plain_storage.specs.Held.{IsPlainStored, PlainHeld};
 ghost use Rattle.plain_storage.specs.Images.{AreClean, EachPair, OtherFilesStay};
-ghost use Rattle.plain_storage.specs.Keeping.{AreOpen, HoldsEither, IsNext, IsWithStore, IsWithType, Keeps, MayKeep, MayServe, Writes, held_in, storage_of, types_with};
+ghost use Rattle.plain_storage.specs.Keeping.{AreOpen, HoldsEither, IsNext, IsOverFull, IsWithStore, IsWithType, Keeps, MayKeep, MayServe, held_in, storage_of, types_with};
+ghost use Rattle.plain_storage.specs.Logs.{IsOverLimit};
 ghost use Rattle.plain_storage.specs.Serving.{OnlyHeldChanges};
 
 use crate::counting::{ROOT_ID, count_kept};
@@ -94,7 +94,9 @@ impl PlainStorage {
         ensures stop { IsTrue D.tells → AreClean (D.reads disk.old) (D.leaves disk.old) → (held next : PlainHeld) → IsPlainStored (D.reads disk.old 0) (D.reads disk.old 1) held
             → held.next_id ≡ self.old.next_id → IsWithStore op held next → EachPair (D.leaves disk.new) (HoldsEither held next) }
         ensures others { IsTrue D.tells → OtherFilesStay (D.reads disk.old) (D.reads disk.new) (D.leaves disk.old) (D.leaves disk.new) }
-        ensures full { IsTrue D.tells → (number : ℕ) → IsErrOf result (AnyFault.Full number) → 2 ^ 40 - 64 < length_of (payloads_of (D.reads disk.new 0)) }
+        ensures full { IsTrue D.tells → (number : ℕ) → IsErrOf result (AnyFault.Full number) → IsOverLimit (D.reads disk.new 0) }
+        ensures full_stays { (number : ℕ) → IsErrOf result (AnyFault.Full number) → disk.new ≡ disk.old }
+        ensures full_number { IsTrue D.tells → (number : ℕ) → IsErrOf result (AnyFault.Full number) → number ≡ self.old.stores_log.count + 1 }
         ensures not_broken { (id : ℕ) → IsErrOf result (AnyFault.Broken id) → ⊥ }
         ensures faults { D.faults disk.old ≤ D.faults disk.new }
         ensures cause { IsErrOf result AnyFault.Fault → Rose (D.faults disk.old) (D.faults disk.new) }
@@ -120,7 +122,9 @@ impl PlainStorage {
         ensures stop { IsTrue D.tells → AreClean (D.reads disk.old) (D.leaves disk.old) → (held next : PlainHeld) → IsPlainStored (D.reads disk.old 0) (D.reads disk.old 1) held
             → IsWithType text.now held next → EachPair (D.leaves disk.new) (HoldsEither held next) }
         ensures others { IsTrue D.tells → OtherFilesStay (D.reads disk.old) (D.reads disk.new) (D.leaves disk.old) (D.leaves disk.new) }
-        ensures full { IsTrue D.tells → (number : ℕ) → IsErrOf result (AnyFault.Full number) → 2 ^ 40 - 64 < length_of (payloads_of (D.reads disk.new 1)) }
+        ensures full { IsTrue D.tells → (number : ℕ) → IsErrOf result (AnyFault.Full number) → IsOverLimit (D.reads disk.new 1) }
+        ensures full_stays { (number : ℕ) → IsErrOf result (AnyFault.Full number) → disk.new ≡ disk.old }
+        ensures full_number { IsTrue D.tells → (number : ℕ) → IsErrOf result (AnyFault.Full number) → number ≡ self.old.stores_log.count + 1 }
         ensures not_broken { (id : ℕ) → IsErrOf result (AnyFault.Broken id) → ⊥ }
         ensures faults { D.faults disk.old ≤ D.faults disk.new }
         ensures cause { IsErrOf result AnyFault.Fault → Rose (D.faults disk.old) (D.faults disk.new) }
@@ -149,10 +153,10 @@ impl PlainStorage {
             → EachPair (D.leaves disk.new) (HoldsEither held next) }
         ensures others { IsTrue D.tells → OtherFilesStay (D.reads disk.old) (D.reads disk.new) (D.leaves disk.old) (D.leaves disk.new) }
 
-        // `Full` only where a log is over its limit, and something was to be written.
-        ensures full { IsTrue D.tells → (number : ℕ) → IsErrOf result (AnyFault.Full number)
-            → (2 ^ 40 - 64 < length_of (payloads_of (D.reads disk.new 0))) ⊎ (2 ^ 40 - 64 < length_of (payloads_of (D.reads disk.new 1))) }
-        ensures due { (number : ℕ) → IsErrOf result (AnyFault.Full number) → Writes ask }
+        // `Full` only where the log is over its limit in which the store or the type is to be kept. The disk is not called then, and the number is that of the next store.
+        ensures full { IsTrue D.tells → (number : ℕ) → IsErrOf result (AnyFault.Full number) → IsOverFull ask (D.reads disk.new) }
+        ensures full_stays { (number : ℕ) → IsErrOf result (AnyFault.Full number) → disk.new ≡ disk.old }
+        ensures full_number { IsTrue D.tells → (number : ℕ) → IsErrOf result (AnyFault.Full number) → number ≡ self.old.stores_log.count + 1 }
         ensures not_broken { (id : ℕ) → IsErrOf result (AnyFault.Broken id) → ⊥ }
         ensures faults { D.faults disk.old ≤ D.faults disk.new }
         ensures cause { IsErrOf result AnyFault.Fault → Rose (D.faults disk.old) (D.faults disk.new) }

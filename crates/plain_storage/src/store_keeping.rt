@@ -2,12 +2,12 @@
 
 ghost use Rattle.std.specs.Prelude.{◌≡◌, ◌≤◌, ◌<◌, ◌-◌, ◌+◌, ◌^◌, ◌++◌, [], ◌∷◌, ℕ, List, IsTrue, length, OnOk, IsErrOf, ◌⊎◌};
 ghost use Rattle.store_io.specs.Disk.{Only, OthersStay, Rose};
-ghost use Rattle.gated_log.specs.Log.{Each, length_of, payloads_of};
+ghost use Rattle.gated_log.specs.Log.{Each};
 ghost use Rattle.graph_model.specs.declared.ask.StorageFault.{StorageFault as AnyFault};
 ghost use Rattle.graph_model.specs.declared.entity.StoreOp.{StoreOp as AnyStore};
-ghost use Rattle.plain_storage.specs.Logs.{IsOpen};
-ghost use Rattle.plain_storage.specs.Serving.{HoldsStores, IsGoodStore, IsNextStore, asked_fault};
-ghost use Rattle.plain_storage.specs.Stores.{last_next_id, plain_header};
+ghost use Rattle.plain_storage.specs.Logs.{IsOpen, IsOverLimit};
+ghost use Rattle.plain_storage.specs.Serving.{IsGoodStore, IsNextStore, asked_fault};
+ghost use Rattle.plain_storage.specs.Stores.{HoldsStores, last_next_id, plain_header};
 
 use crate::payload::spell_store;
 use gated_log::{AppendFault, GatedLog};
@@ -36,7 +36,10 @@ fn keep_payload<D: Disk>(
         → Each (D.leaves disk.new 0) (λ image. HoldsStores image stores ⊎ HoldsStores image (stores ++ op ∷ [])) }
     ensures others { IsTrue D.tells → OthersStay 0 (D.reads disk.old) (D.reads disk.new) (D.leaves disk.old) (D.leaves disk.new) }
     ensures count { OnOk result (log.new.count ≡ log.old.count + 1) }
-    ensures full { IsTrue D.tells → (at : ℕ) → IsErrOf result (AppendFault.Full at) → 2 ^ 40 - 64 < length_of (payloads_of (D.reads disk.new 0)) }
+
+    // `Full` only where the log is over its limit, and then the disk is not called.
+    ensures full { IsTrue D.tells → (at : ℕ) → IsErrOf result (AppendFault.Full at) → IsOverLimit (D.reads disk.new 0) }
+    ensures full_stays { (at : ℕ) → IsErrOf result (AppendFault.Full at) → disk.new ≡ disk.old }
     ensures faults { D.faults disk.old ≤ D.faults disk.new }
     ensures cause { IsErrOf result AppendFault.Fault → Rose (D.faults disk.old) (D.faults disk.new) }
 {
@@ -83,7 +86,11 @@ pub fn keep_store<D: Disk>(
         → Each (D.leaves disk.new 0) (λ image. HoldsStores image stores ⊎ HoldsStores image (stores ++ op.now ∷ [])) }
     ensures others { IsTrue D.tells → OthersStay 0 (D.reads disk.old) (D.reads disk.new) (D.leaves disk.old) (D.leaves disk.new) }
     ensures count { OnOk result (log.new.count ≡ log.old.count + 1) }
-    ensures full { IsTrue D.tells → (number : ℕ) → IsErrOf result (AnyFault.Full number) → 2 ^ 40 - 64 < length_of (payloads_of (D.reads disk.new 0)) }
+
+    // `Full` only where the log is over its limit; it tells the number that is due, and the disk is not called.
+    ensures full { IsTrue D.tells → (number : ℕ) → IsErrOf result (AnyFault.Full number) → IsOverLimit (D.reads disk.new 0) }
+    ensures full_stays { (number : ℕ) → IsErrOf result (AnyFault.Full number) → disk.new ≡ disk.old }
+    ensures full_number { IsTrue D.tells → (number : ℕ) → IsErrOf result (AnyFault.Full number) → number ≡ log.old.count + 1 }
     ensures not_broken { (id : ℕ) → IsErrOf result (AnyFault.Broken id) → ⊥ }
     ensures faults { D.faults disk.old ≤ D.faults disk.new }
     ensures cause { IsErrOf result AnyFault.Fault → Rose (D.faults disk.old) (D.faults disk.new) }
