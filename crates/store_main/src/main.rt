@@ -16,9 +16,7 @@ use std::alloc::Global;
 use std::io::ErrorKind;
 use std::process::ExitCode;
 use std::{env, io};
-use store_run::status::Status;
-use store_run::top::run_alone;
-use store_run::words::are_run_words;
+use store_run::{Status, are_run_words, run_alone};
 
 const USAGE: &str = "usage: store_main run DIR 1";
 

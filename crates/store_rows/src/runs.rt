@@ -3,8 +3,7 @@ ghost use Rattle.std.specs.Prelude.{◌≡◌, length, IfOk};
 
 use std::alloc::{AllocError, AllocFailed, Global};
 use store_io::{DiskFailed, MemDisk, MemSink, MemSource};
-use store_run::status::Status;
-use store_run::top::run_alone;
+use store_run::{Status, run_alone};
 
 /// Why a test could not be made.
 #[derive(Debug, Drop)]

@@ -117,6 +117,46 @@ fn older_types(rt: HostRuntime) -> Result<(), Fail> {
 }
 
 #[test]
+fn pairs_at_each_load(rt: HostRuntime) -> Result<(), Fail> {
+    let alloc = rt.alloc();
+    let mut disks = fresh(alloc, Vec::new(alloc), None)?;
+    assert!(rt; is_answered(alloc, &mut disks, POINT.0, POINT.1)?);
+    // Two members are each other's source, also of what was stored with these pairs.
+    let turn =
+        b"refactor Point.x Point.y\nrefactor Point.y Point.x\nhome p\nshow p\nstore p\n".as_slice();
+    let turned =
+        b"ok\nok\nok\n{\"id\":1024,\"m\":{\"x\":6,\"y\":5},\"type\":\"Point\"}\nstored 2 1\n".as_slice();
+    assert!(rt; is_answered(alloc, &mut disks, turn, turned)?);
+    let back =
+        b"ok\nok\nok\n{\"id\":1024,\"m\":{\"x\":5,\"y\":6},\"type\":\"Point\"}\nstored 3 1\n".as_slice();
+    assert!(rt; is_answered(alloc, &mut disks, turn, back)?);
+    let shown = b"ok\n{\"id\":1024,\"m\":{\"x\":5,\"y\":6},\"type\":\"Point\"}\n".as_slice();
+    assert!(rt; is_answered(alloc, &mut disks, b"home p\nshow p\n", shown)?);
+    Ok(())
+}
+
+#[test]
+fn what_is_cut_out(rt: HostRuntime) -> Result<(), Fail> {
+    let alloc = rt.alloc();
+    let first = (
+        b"type Bag refs:items\nnew a Bag\nnew b Bag\nnew c Bag\nadd a items b\nadd a items c\nroot a\nstore root\n\
+cut a items 0\nstore-all a\ntidy\ncollect\n"
+            .as_slice(),
+        b"type 16\nnew 1024\nnew 1025\nnew 1026\nok\nok\nok\nstored 1 4\nok\nstored 2 2\ntidied\nkept 4\n".as_slice(),
+    );
+    // Nothing leads to the object with the id 1025 any more.
+    let second = (
+        b"home a\nshow a\ntidy\ncollect\nexport\n".as_slice(),
+        b"ok\n{\"id\":1024,\"m\":{\"items\":[1026]},\"type\":\"Bag\"}\ntidied\nkept 3\n\
+{\"id\":1,\"m\":{\"target\":1024},\"type\":\"Root\"}\n{\"id\":1024,\"m\":{\"items\":[1026]},\"type\":\"Bag\"}\n\
+{\"id\":1026,\"m\":{\"items\":[]},\"type\":\"Bag\"}\nend 3\n"
+            .as_slice(),
+    );
+    assert!(rt; are_answered(alloc, first, second)?);
+    Ok(())
+}
+
+#[test]
 fn lazy_references(rt: HostRuntime) -> Result<(), Fail> {
     let alloc = rt.alloc();
     let first = (
@@ -131,13 +171,13 @@ fn lazy_references(rt: HostRuntime) -> Result<(), Fail> {
     Ok(())
 }
 
-/// A script that gives an object a text of so many letters, and stores it.
-fn big_script(alloc: Global, letters: usize) -> Result<Vec<u8>, Fail> {
+/// A script that gives an object a text of so many letters, and then goes on.
+fn big_script(alloc: Global, letters: usize, rest: &[u8]) -> Result<Vec<u8>, Fail> {
     let mut script = Vec::from_slice(alloc, b"type Big text:t\nnew a Big\nset a t ")?;
     for _ in 0..letters {
         script.push(b'a')?;
     }
-    script.extend_from_slice(b"\nstore a\n")?;
+    script.extend_from_slice(rest)?;
     Ok(script)
 }
 
@@ -145,9 +185,17 @@ fn big_script(alloc: Global, letters: usize) -> Result<Vec<u8>, Fail> {
 fn big_stores(rt: HostRuntime) -> Result<(), Fail> {
     let alloc = rt.alloc();
     // An entity has 32 bytes, and a text the four bytes of its length.
+    let one = b"\nstore a\n".as_slice();
     let fits = b"type 16\nnew 1024\nok\nstored 1 1\n".as_slice();
-    assert!(rt; is_answered_fresh(alloc, &big_script(alloc, 1_048_524)?, fits)?);
+    assert!(rt; is_answered_fresh(alloc, &big_script(alloc, 1_048_524, one)?, fits)?);
     let more = b"type 16\nnew 1024\nok\nrefused too-big\n".as_slice();
-    assert!(rt; is_answered_fresh(alloc, &big_script(alloc, 1_048_525)?, more)?);
+    assert!(rt; is_answered_fresh(alloc, &big_script(alloc, 1_048_525, one)?, more)?);
+
+    // The root, which is stored with it, has 40 bytes.
+    let both = b"\nroot a\nstore root\n".as_slice();
+    let fits = b"type 16\nnew 1024\nok\nok\nstored 1 2\n".as_slice();
+    assert!(rt; is_answered_fresh(alloc, &big_script(alloc, 1_048_484, both)?, fits)?);
+    let more = b"type 16\nnew 1024\nok\nok\nrefused too-big\n".as_slice();
+    assert!(rt; is_answered_fresh(alloc, &big_script(alloc, 1_048_485, both)?, more)?);
     Ok(())
 }

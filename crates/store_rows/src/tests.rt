@@ -6,8 +6,7 @@ use crate::letters::Letters;
 use crate::runs::{Fail, alone, fresh, is_answered, run, words};
 use std::alloc::Global;
 use store_io::{Disk, MemDisk, MemSink, MemSource, Pick};
-use store_run::status::{Cause, Status};
-use store_run::top::run_alone;
+use store_run::{Cause, Status, run_alone};
 
 /// A script of two stores.
 const SCRIPT: &[u8] = b"type Node int:v\nnew a Node\nnew b Node\nstore a\nshow a\nstore b\n";

@@ -6,8 +6,7 @@ use Rattle.session_model.specs.Answer.{State, turn}
 use Rattle.session.specs.Limits.{most_bytes}
 use Rattle.store_run.specs.Lines.{ended, whole_lines}
 use Rattle.store_run.specs.Answer.{answers, state_after, stores_of}
-use Rattle.store_run.specs.Acknowledged.{count_stored, says_stored}
-use Rattle.store_run.specs.Run.{acknowledged}
+use Rattle.store_run.specs.Acknowledged.{acknowledged, count_stored, says_stored}
 use Rattle.store_run.proofs.WholeLines.{cut_before, no_whole, part_says, whole_ended, whole_first}
 use Rattle.store_run.proofs.Said.{as_count, said}
 

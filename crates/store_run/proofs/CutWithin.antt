@@ -1,9 +1,8 @@
 -- A run ends within a line: what was put and what the images hold then.
-use Rattle.std.proofs.Common.{◌≡◌, ◌≢◌, ◌<◌, ℕ, ◌+◌, Bool, IsTrue, List, [], ◌∷◌, ◌++◌, length, take, drop, refl, inl, inr, sym, ap, ◌∙◌, subst, arith, append_assoc}
+use Rattle.std.proofs.Common.{◌≡◌, ◌≢◌, ◌<◌, ℕ, Bool, IsTrue, List, [], ◌∷◌, ◌++◌, length, take, drop, refl, inl, inr, sym, ap, ◌∙◌, subst, arith, append_assoc}
 use Rattle.std.proofs.lemmas.List.{take-append-drop}
 use Rattle.graph_model.specs.declared.ask.Ask.{Ask}
 use Rattle.graph_model.specs.declared.ask.Ask.TheVariants as asks
-use Rattle.graph_model.specs.declared.entity.StoreOp.{StoreOp}
 use Rattle.graph_model.specs.Served.{Storage}
 use Rattle.type_dictionary.specs.Records.{records_from}
 use Rattle.session_model.specs.Answer.{Turn}
@@ -13,8 +12,9 @@ use Rattle.session.specs.declared.session.Session.{Session}
 use Rattle.session.specs.declared.session.Turn.TheVariants as step
 use Rattle.plain_storage.specs.Held.{IsPlainStored, PlainHeld}
 use Rattle.plain_storage.specs.Images.{AreClean, EachPair}
-use Rattle.plain_storage.specs.Keeping.{HoldsEither, IsNext, Plain, Writes, held_in, storage_of}
+use Rattle.plain_storage.specs.Keeping.{HoldsEither, IsNext, IsOverFull, Plain, held_in, storage_of}
 use Rattle.store_run.specs.Answer.{held_behind}
+use Rattle.store_run.specs.Full.{IsFullFor}
 use Rattle.store_run.specs.Serving.{IsTurnCut}
 use Rattle.store_run.specs.Within.{IsBehind, IsWithin, LineBegun, any_record}
 use Rattle.store_run.specs.declared.stop.Stop.{Stop}
@@ -43,14 +43,14 @@ begun_holds line due put held image0 image1 some (inr behind) stored = subst (λ
 -- ---- between two steps
 
 pub within_cut : (told kept : Bool) (line : LineBegun) (Stands : Storage → Turn → Type 0) (plain : Plain) (reads : ℕ → List ℕ) (written : List ℕ) (leaves : ℕ → List ℕ → Bool) (stop : Stop)
-    → IsTrue told → IsTrue kept → AreClean reads leaves → stop ≢ Full → IsWithin told kept line Stands plain reads written → IsTurnCut line.turn line.held stop line.written written leaves
+    → IsTrue told → IsTrue kept → AreClean reads leaves → stop ≢ Full → IsWithin told kept line Stands plain reads written → IsTurnCut line.turn line.held stop line.written written reads leaves
 within_cut told kept line Stands plain reads written leaves stop t k clean other within = record {
   part = within.put;
   part_rest = within.due.text;
   answer_is = within.text;
   answered = within.wrote t;
   line_end = λ no_fault. within.whole;
-  due = λ full. absurd (other full);
+  full = λ full. absurd (other full);
   images = λ image0 image1 left0 left1. stage_holds line within.due within.put (held_in plain within.types) image0 image1 within.stage (images image0 image1 left0 left1);
   begun = λ some image0 image1 left0 left1. begun_holds line within.due within.put (held_in plain within.types) image0 image1 some within.stage (images image0 image1 left0 left1);
 }
@@ -60,37 +60,34 @@ within_cut told kept line Stands plain reads written leaves stop t k clean other
 
 -- ---- at an ask that is not served
 
-one_left : (records rest : List (List ℕ)) (text : List ℕ) (stores : List StoreOp) → records ≡ text ∷ rest → 0 < length records + length stores
-one_left records rest text stores e = let some = ap length e in omega arith
+some_first : {A : Type 0} (l rest : List A) (x : A) → l ≡ x ∷ rest → 0 < length l
+some_first l rest x e = let some = ap length e in omega arith
 
-one_store_left : (records : List (List ℕ)) (stores rest : List StoreOp) (op : StoreOp) → stores ≡ op ∷ rest → 0 < length records + length stores
-one_store_left records stores rest op e = let some = ap length e in omega arith
+-- what the line is to keep is still due, nothing was put, and the log for it is over its limit
+full_at : (line : LineBegun) (ask : Ask) (due : Turn) (put : List ℕ) (held : PlainHeld) (reads : ℕ → List ℕ) → Stage line due put held → IsOverFull ask reads → IsDue ask due
+    → (put ≡ []) × IsFullFor line.turn reads
+full_at line (asks.Store op) due put held reads (inl before) over is = (before.put_none, inl (record { due = some_first line.turn.stores _ op (sym before.stores ∙ is); over = over }))
+full_at line (asks.KeepType text) due put held reads (inl before) over is = (before.put_none, inr (record { due = some_first line.turn.records _ text (sym before.records ∙ is); over = over }))
+full_at line (asks.Store op) due put held reads (inr behind) over is = let none = ap length behind.stores in let some = ap length is in absurd (omega arith)
+full_at line (asks.KeepType text) due put held reads (inr behind) over is = let none = ap length behind.records in let some = ap length is in absurd (omega arith)
+full_at line (asks.Look x) due put held reads stage over is = absurd over
+full_at line (asks.Hold xs) due put held reads stage over is = absurd over
+full_at line (asks.Release xs) due put held reads stage over is = absurd over
+full_at line asks.Collect due put held reads stage over is = absurd over
+full_at line asks.Tidy due put held reads stage over is = absurd over
 
--- what the line is to keep is still due, and nothing was put
-due_at : (line : LineBegun) (ask : Ask) (due : Turn) (put : List ℕ) (held : PlainHeld) → Stage line due put held → Writes ask → IsDue ask due
-    → (put ≡ []) × (0 < length line.turn.records + length line.turn.stores)
-due_at line (asks.Store op) due put held (inl before) writes is = (before.put_none, one_store_left line.turn.records line.turn.stores _ op (sym before.stores ∙ is))
-due_at line (asks.KeepType text) due put held (inl before) writes is = (before.put_none, one_left line.turn.records _ text line.turn.stores (sym before.records ∙ is))
-due_at line (asks.Store op) due put held (inr behind) writes is = let none = ap length behind.stores in let some = ap length is in absurd (omega arith)
-due_at line (asks.KeepType text) due put held (inr behind) writes is = let none = ap length behind.records in let some = ap length is in absurd (omega arith)
-due_at line (asks.Look x) due put held stage writes is = absurd writes
-due_at line (asks.Hold xs) due put held stage writes is = absurd writes
-due_at line (asks.Release xs) due put held stage writes is = absurd writes
-due_at line asks.Collect due put held stage writes is = absurd writes
-due_at line asks.Tidy due put held stage writes is = absurd writes
-
-pub ask_cut : (told kept : Bool) (line : LineBegun) (ask : Ask) (session : Session) (plain : Plain) (reads : ℕ → List ℕ) (written : List ℕ) (leaves : ℕ → List ℕ → Bool) (stop : Stop)
-    → IsTrue told → IsTrue kept → (stop ≡ Full → Writes ask)
+pub ask_cut : (told kept : Bool) (line : LineBegun) (ask : Ask) (session : Session) (plain : Plain) (reads : ℕ → List ℕ) (written : List ℕ) (reads' : ℕ → List ℕ) (leaves : ℕ → List ℕ → Bool) (stop : Stop)
+    → IsTrue told → IsTrue kept → (stop ≡ Full → IsOverFull ask reads')
     → ((held next : PlainHeld) → IsPlainStored (reads 0) (reads 1) held → held.number ≡ plain.stores_log.count → held.next_id ≡ plain.next_id → IsNext ask held next
     → EachPair leaves (HoldsEither held next))
-    → IsWithin told kept line (Gives any_record (step.Ask ask) session) plain reads written → IsTurnCut line.turn line.held stop line.written written leaves
-ask_cut told kept line ask session plain reads written leaves stop t k writes images within = record {
+    → IsWithin told kept line (Gives any_record (step.Ask ask) session) plain reads written → IsTurnCut line.turn line.held stop line.written written reads' leaves
+ask_cut told kept line ask session plain reads written reads' leaves stop t k over images within = record {
   part = within.put;
   part_rest = within.due.text;
   answer_is = within.text;
   answered = within.wrote t;
   line_end = λ no_fault. within.whole;
-  due = λ full. due_at line ask within.due within.put now within.stage (writes full) within.stands.due_next;
+  full = λ full. full_at line ask within.due within.put now reads' within.stage (over full) within.stands.due_next;
   images = λ image0 image1 left0 left1. holds image0 image1 (either image0 image1 left0 left1);
   begun = λ some image0 image1 left0 left1. begun image0 image1 some (either image0 image1 left0 left1);
 }
@@ -116,14 +113,14 @@ ask_cut told kept line ask session plain reads written leaves stop t k writes im
 
 pub print_cut : (told kept : Bool) (line : LineBegun) (text : List ℕ) (session : Session) (plain : Plain) (reads : ℕ → List ℕ) (written new_written : List ℕ) (leaves : ℕ → List ℕ → Bool)
     (stop : Stop) (n : ℕ) → IsTrue told → IsTrue kept → AreClean reads leaves → stop ≡ WriteFault → new_written ≡ written ++ take n text
-    → IsWithin told kept line (Gives any_record (step.Print text) session) plain reads written → IsTurnCut line.turn line.held stop line.written new_written leaves
+    → IsWithin told kept line (Gives any_record (step.Print text) session) plain reads written → IsTurnCut line.turn line.held stop line.written new_written reads leaves
 print_cut told kept line text session plain reads written new_written leaves stop n t k clean is put within = record {
   part = within.put ++ take n text;
   part_rest = drop n text ++ prints.rest;
   answer_is = within.text ∙ (ap (λ (l : List ℕ). within.put ++ l) (prints.text ∙ split) ∙ sym (append_assoc within.put (take n text) (drop n text ++ prints.rest)));
   answered = put ∙ (ap (λ (w : List ℕ). w ++ take n text) (within.wrote t) ∙ append_assoc line.written within.put (take n text));
   line_end = λ no_fault. absurd (no_fault is);
-  due = λ full. absurd (other (sym is ∙ full));
+  full = λ full. absurd (other (sym is ∙ full));
   images = λ image0 image1 left0 left1. inr (images image0 image1 left0 left1);
   begun = λ some. images;
 }

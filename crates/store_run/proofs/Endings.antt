@@ -1,5 +1,5 @@
 -- How a run can end.
-use Rattle.std.proofs.Common.{inl, inr, ⊎_elim, ◌≡◌, ◌≤◌, ◌<◌, ◌⊎◌, ◌∙◌, ℕ, sym, refl, arith}
+use Rattle.std.proofs.Common.{inl, inr, ⊎_elim, ◌≡◌, ◌⊎◌, ◌∙◌, ℕ, sym, refl}
 use Rattle.store_run.specs.declared.status.Cause.{Cause}
 use Rattle.store_run.specs.declared.status.Cause.TheVariants.{Header}
 use Rattle.store_run.specs.declared.status.Status.{Status}
@@ -36,7 +36,3 @@ damaged_is status channel cause ends is =
     (λ damaged. let same : Damaged channel cause ≡ Damaged 0 Header = sym is ∙ damaged in (cc, cc))
     (λ failed. let same : Damaged channel cause ≡ WriteFault = sym is ∙ failed in cc)
     ends
-
--- neither of two lengths is over the limit
-pub over_no_limit : (limit first second : ℕ) → (limit < first) ⊎ (limit < second) → first ≤ limit → second ≤ limit → ⊥
-over_no_limit limit first second over low high = ⊎_elim (λ h. omega (arith, h, low)) (λ h. omega (arith, h, high)) over

@@ -7,10 +7,10 @@ use Rattle.session_model.specs.Answer.{State, turn}
 use Rattle.session.specs.Limits.{most_bytes}
 use Rattle.plain_storage.specs.Held.{IsPlainStored, PlainHeld}
 use Rattle.plain_storage.specs.Stores.{last_next_id}
-use Rattle.store_run.specs.Acknowledged.{says_stored}
+use Rattle.store_run.specs.Acknowledged.{acknowledged, says_stored}
 use Rattle.store_run.specs.Answer.{answer, held_with, opened_on, state_after, stores_of}
 use Rattle.store_run.specs.Lines.{lines_of}
-use Rattle.store_run.specs.Run.{HoldsAcknowledged, HoldsPrefix, acknowledged}
+use Rattle.store_run.specs.Run.{HoldsAcknowledged, HoldsPrefix}
 use Rattle.store_run.proofs.AnswerLines.{acknowledged_stores}
 use Rattle.store_run.proofs.Appends.{stores_of-append}
 use Rattle.store_run.proofs.Said.{said}

@@ -79,9 +79,9 @@ done_not_full : status_.Done ≡ status_.Full → ⊥
 done_not_full is = cc
 
 -- a run that stops before its end
-pub stopped_run : (start : PlainHeld) (script left written0 written : List ℕ) (leaves : ℕ → List ℕ → Bool) (stop : Stop)
-    → IsPartAnswered start script stop written0 written leaves → IsRun start (status_of stop) script left written0 written leaves
-stopped_run start script left written0 written leaves stop part =
+pub stopped_run : (start : PlainHeld) (script left written0 written : List ℕ) (reads : ℕ → List ℕ) (leaves : ℕ → List ℕ → Bool) (stop : Stop)
+    → IsPartAnswered start script stop written0 written reads leaves → IsRun start (status_of stop) script left written0 written reads leaves
+stopped_run start script left written0 written reads leaves stop part =
     let state = opened_on start in
     let is = part.answered in
     record {
@@ -89,12 +89,12 @@ stopped_run start script left written0 written leaves stop part =
           (answered_front state (lines_of script) part.done part.rest is.part is.part_rest is.lines is.next_answer) (answers_end state part.done) is.put part.line_end;
       prefix = λ image0 image1 left0 left1. record { done = part.done; rest = part.rest; answered = is; held = part.images image0 image1 left0 left1 };
       all_stored = λ done. absurd (not_done stop done);
-      due = λ full. record { done = part.done; rest = part.rest; answered = is; due = part.due (was_full stop full) };
+      due = λ full. record { done = part.done; rest = part.rest; answered = is; full = part.full (was_full stop full) };
     }
 
 -- a run to its end
 pub finished_run : (start : PlainHeld) (session : Session) (plain : Plain) (reads : ℕ → List ℕ) (script left written0 written : List ℕ) (leaves : ℕ → List ℕ → Bool)
-    → IsFinished start session plain reads script written0 written → AreClean reads leaves → left ≡ [] → IsRun start status_.Done script left written0 written leaves
+    → IsFinished start session plain reads script written0 written → AreClean reads leaves → left ≡ [] → IsRun start status_.Done script left written0 written reads leaves
 finished_run start session plain reads script left written0 written leaves finished clean read =
     let lines = lines_of script in
     let state = opened_on start in
@@ -121,5 +121,5 @@ finished_run start session plain reads script left written0 written leaves finis
 -- where nothing was done the images hold the start
 pub untouched_prefix : (start : PlainHeld) (reads : ℕ → List ℕ) (leaves : ℕ → List ℕ → Bool) (script written : List ℕ) → IsCleanWith start reads leaves → EachPair leaves (HoldsPrefix start script written written)
 untouched_prefix start reads leaves script written ready =
-    (stopped_run start script script written written leaves stop_.NoMemory
-    (nothing_answered start script stop_.NoMemory written leaves (clean_images start reads leaves ready.clean ready.stored) (λ full. cc))).prefix
+    (stopped_run start script script written written reads leaves stop_.NoMemory
+    (nothing_answered start script stop_.NoMemory written reads leaves (clean_images start reads leaves ready.clean ready.stored) (λ full. cc))).prefix

@@ -1,7 +1,11 @@
 -- Why a run ends, where a call has failed.
-use Rattle.std.proofs.Common.{◌≡◌, ◌≢◌, ℕ, Result, Ok, Err, IfErr, IsErrAnd, IsErrOf, refl, ap, sym, subst}
+use Rattle.std.proofs.Common.{◌≡◌, ◌≢◌, ℕ, List, Result, Ok, Err, IfErr, IsErrAnd, IsErrOf, inl, inr, refl, ap, sym, subst}
+use Rattle.graph_model.specs.declared.ask.Ask.{Ask}
+use Rattle.graph_model.specs.declared.ask.Ask.TheVariants as asks
 use Rattle.graph_model.specs.declared.ask.StorageFault.{StorageFault}
 use Rattle.graph_model.specs.declared.ask.StorageFault.TheVariants as storage
+use Rattle.plain_storage.specs.Keeping.{IsOverFull}
+use Rattle.plain_storage.specs.Logs.{HasFullLog}
 use Rattle.store_run.specs.Faults.{storage_stop}
 use Rattle.store_run.specs.declared.stop.Stop.{Stop}
 use Rattle.store_run.specs.declared.stop.Stop.TheVariants as stop
@@ -10,6 +14,21 @@ use Rattle.store_run.specs.declared.stop.Stop.TheVariants as stop
 pub if_stopped : {T : Type 0} (r : Result T Stop) (is : Stop) (P : Stop → Type 0) → IsErrAnd r (λ e. e ≡ is) → P is → IfErr r P
 if_stopped (Ok x) is P answered holds = tt
 if_stopped (Err e) is P answered holds = subst P (sym answered) holds
+
+-- what was answered is `Full`
+pub stopped_full : {T : Type 0} (r : Result T Stop) (is : Stop) → IsErrAnd r (λ e. e ≡ is) → IsErrOf r stop.Full → is ≡ stop.Full
+stopped_full (Ok x) is answered full = absurd answered
+stopped_full (Err e) is answered full = cc
+
+-- what is asked has no room in one of the logs
+pub some_full : (ask : Ask) (reads : ℕ → List ℕ) → IsOverFull ask reads → HasFullLog reads
+some_full (asks.Store op) reads over = inl over
+some_full (asks.KeepType text) reads over = inr over
+some_full (asks.Look x) reads over = absurd over
+some_full (asks.Hold xs) reads over = absurd over
+some_full (asks.Release xs) reads over = absurd over
+some_full asks.Collect reads over = absurd over
+some_full asks.Tidy reads over = absurd over
 
 -- a run is full where its storage is
 pub storage_full : (fault : StorageFault) (P : Type 0) → storage_stop fault ≡ stop.Full → ((number : ℕ) → fault ≡ storage.Full number → P) → P

@@ -1,6 +1,7 @@
 pub mod Acknowledged
 pub mod Answer
 pub mod Faults
+pub mod Full
 pub mod Lines
 pub mod Progress
 pub mod Run

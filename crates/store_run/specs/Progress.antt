@@ -1,10 +1,11 @@
 -- How far a script is served.
-use Rattle.std.specs.Prelude.{◌≡◌, ◌≢◌, ◌<◌, ◌+◌, ℕ, Bool, List, ◌++◌, length, take}
+use Rattle.std.specs.Prelude.{◌≡◌, ◌≢◌, ℕ, Bool, List, ◌++◌, take}
 use Rattle.session.specs.declared.session.Session.{Session}
 use Rattle.plain_storage.specs.Held.{PlainHeld}
 use Rattle.plain_storage.specs.Images.{EachPair}
 use Rattle.plain_storage.specs.Keeping.{HoldsEither, Keeps, Plain, held_in}
-use Rattle.store_run.specs.Answer.{answers, held_after, opened_on, records_of, state_after, stores_of}
+use Rattle.store_run.specs.Answer.{answers, held_after, opened_on, state_after}
+use Rattle.store_run.specs.Full.{IsFullForNext}
 use Rattle.graph_export.specs.Line.{HasNoFeed}
 use Rattle.store_run.specs.Lines.{lines_of, ended, AllHaveNoFeed}
 use Rattle.store_run.specs.Run.{AreAnswered, EndsLine}
@@ -33,12 +34,12 @@ pub record IsFinished (start : PlainHeld) (session : Session) (plain : Plain) (r
   pub answered : written ≡ written0 ++ answers (opened_on start) (lines_of script)
 
 -- The first lines are answered whole, and of the next a part. Each image holds what they made, and of the next line all or nothing.
-pub record IsPartAnswered (start : PlainHeld) (script : List ℕ) (stop : Stop) (written0 written : List ℕ) (leaves : ℕ → List ℕ → Bool) : Type 0 where
+pub record IsPartAnswered (start : PlainHeld) (script : List ℕ) (stop : Stop) (written0 written : List ℕ) (reads : ℕ → List ℕ) (leaves : ℕ → List ℕ → Bool) : Type 0 where
   pub done : List (List ℕ)
   pub rest : List (List ℕ)
   pub answered : AreAnswered start script written0 written done rest
   pub line_end : stop ≢ WriteFault → EndsLine answered.part
-  pub due : stop ≡ Full → 0 < length (records_of (state_after (opened_on start) done) (take 1 rest)) + length (stores_of (state_after (opened_on start) done) (take 1 rest))
+  pub full : stop ≡ Full → IsFullForNext (state_after (opened_on start) done) rest reads
   pub images : EachPair leaves (HoldsEither (held_after start done) (held_after start (done ++ take 1 rest)))
 
 -- Whatever was served before, these bytes are served too.
@@ -49,8 +50,8 @@ Serves session session' plain plain' reads reads' unended unended' bytes written
     → IsServed start session' plain' reads' (read ++ bytes) unended' written0 written'
 
 -- Whatever was served before, and whatever follows these bytes, a part of it all is answered.
-abbrev pub Stops : (session : Session) (plain : Plain) (reads : ℕ → List ℕ) (unended bytes : List ℕ) (stop : Stop) (written written' : List ℕ) (leaves : ℕ → List ℕ → Bool) → Type 0
-Stops session plain reads unended bytes stop written written' leaves =
+abbrev pub Stops : (session : Session) (plain : Plain) (reads : ℕ → List ℕ) (unended bytes : List ℕ) (stop : Stop) (written written' : List ℕ) (reads' : ℕ → List ℕ) (leaves : ℕ → List ℕ → Bool) → Type 0
+Stops session plain reads unended bytes stop written written' reads' leaves =
     (start : PlainHeld) (read written0 left : List ℕ)
     → IsServed start session plain reads read unended written0 written
-    → IsPartAnswered start (read ++ (bytes ++ left)) stop written0 written' leaves
+    → IsPartAnswered start (read ++ (bytes ++ left)) stop written0 written' reads' leaves

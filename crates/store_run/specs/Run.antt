@@ -1,14 +1,14 @@
 -- What a run promises.
-use Rattle.std.specs.Prelude.{◌≡◌, ◌⊎◌, ℕ, ◌+◌, ◌≤◌, ◌<◌, nat_eq, Bool, List, [], ◌∷◌, ◌++◌, length, take, drop, count_by, codes}
-use Rattle.std.specs.List.{starts_with}
+use Rattle.std.specs.Prelude.{◌≡◌, ◌⊎◌, ℕ, ◌+◌, ◌≤◌, ◌<◌, Bool, List, [], ◌∷◌, ◌++◌, length, take}
 use Rattle.graph_model.specs.declared.entity.StoreOp.{StoreOp}
 use Rattle.graph_model.specs.Graph.{after}
 use Rattle.type_desc.specs.declared.desc.TypeDesc.{TypeDesc}
 use Rattle.plain_storage.specs.Held.{IsPlainStored, PlainHeld}
 use Rattle.plain_storage.specs.Images.{AreClean, EachPair}
 use Rattle.plain_storage.specs.Stores.{last_next_id}
-use Rattle.store_run.specs.Lines.{lines_of, whole_lines}
-use Rattle.store_run.specs.Answer.{answer, answers, held_after, opened_on, records_of, state_after, stores_of}
+use Rattle.store_run.specs.Lines.{lines_of}
+use Rattle.store_run.specs.Answer.{answer, answers, held_after, opened_on, state_after}
+use Rattle.store_run.specs.Full.{IsFullForNext}
 use Rattle.store_run.specs.declared.status.Status.{Status}
 use Rattle.store_run.specs.declared.status.Status.TheVariants.{Done, WriteFault, Full}
 
@@ -47,10 +47,6 @@ pub record HoldsPrefix (start : PlainHeld) (script before now image0 image1 : Li
   pub answered : AreAnswered start script before now done rest
   pub held : IsPlainStored image0 image1 (held_after start done) ⊎ IsPlainStored image0 image1 (held_after start (done ++ take 1 rest))
 
--- how many whole lines that begin with `stored ` were put in between
-abbrev pub acknowledged : (before now : List ℕ) → ℕ
-acknowledged before now = count_by (λ line. starts_with nat_eq line (codes "stored ")) (whole_lines (drop (length before) now))
-
 -- The images hold the graph after the first `count` stores: all that are acknowledged, and at most one more.
 pub record HoldsAcknowledged (start : PlainHeld) (stores : List StoreOp) (acknowledged : ℕ) (image0 image1 : List ℕ) : Type 0 where
   pub count : ℕ
@@ -70,16 +66,16 @@ pub record IsCleanWith (start : PlainHeld) (reads : ℕ → List ℕ) (leaves : 
   pub stored : IsPlainStored (reads 0) (reads 1) start
   pub clean : AreClean reads leaves
 
--- something is left to be stored or recorded behind the lines that were answered
-pub record IsDue (start : PlainHeld) (script before now : List ℕ) : Type 0 where
+-- the line behind those that were answered is to store or to record a type, and the log for it is over its limit
+pub record IsDue (start : PlainHeld) (script before now : List ℕ) (reads : ℕ → List ℕ) : Type 0 where
   pub done : List (List ℕ)
   pub rest : List (List ℕ)
   pub answered : AreAnswered start script before now done rest
-  pub due : 0 < length (records_of (state_after (opened_on start) done) (take 1 rest)) + length (stores_of (state_after (opened_on start) done) (take 1 rest))
+  pub full : IsFullForNext (state_after (opened_on start) done) rest reads
 
 -- what a run over this start promises, whatever its status
-pub record IsRun (start : PlainHeld) (status : Status) (script left before now : List ℕ) (leaves : ℕ → List ℕ → Bool) : Type 0 where
+pub record IsRun (start : PlainHeld) (status : Status) (script left before now : List ℕ) (reads : ℕ → List ℕ) (leaves : ℕ → List ℕ → Bool) : Type 0 where
   pub answered : IsAnswered status (answer start script).bytes before now left
   pub prefix : EachPair leaves (HoldsPrefix start script before now)
   pub all_stored : status ≡ Done → EachPair leaves (λ image0 image1. IsPlainStored image0 image1 (held_after start (lines_of script)))
-  pub due : status ≡ Full → IsDue start script before now
+  pub due : status ≡ Full → IsDue start script before now reads

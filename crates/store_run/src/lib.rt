@@ -1,14 +1,17 @@
 //! A script of lines, answered over two logs of one disk.
 #![tactic(auto)]
 
-pub mod input;
+mod input;
 mod laws;
-pub mod line;
-pub mod run;
-pub mod serve;
-pub mod status;
-pub mod stop;
-pub mod top;
-pub mod words;
+mod line;
+mod run;
+mod serve;
+mod status;
+mod stop;
+mod top;
+mod words;
 
 pub use laws::answers_are_lines;
+pub use status::{Cause, Status};
+pub use top::run_alone;
+pub use words::are_run_words;

@@ -1,7 +1,6 @@
 // One line is answered.
-ghost use Rattle.std.specs.Prelude.{◌≡◌, ◌<◌, ◌≤◌, ◌-◌, ◌^◌, ◌++◌, ◌⊎◌, ℕ, Bool, List, IsTrue, IfOk, OnOk, IfErr, IsErrOf};
+ghost use Rattle.std.specs.Prelude.{◌≡◌, ◌<◌, ◌≤◌, ◌++◌, ℕ, Bool, List, IsTrue, IfOk, OnOk, IfErr, IsErrOf};
 ghost use Rattle.store_io.specs.Disk.{Rose};
-ghost use Rattle.gated_log.specs.Log.{length_of, payloads_of};
 ghost use Rattle.session.specs.Dealing.{Gives};
 ghost use Rattle.session.specs.Limits.{most_bytes};
 ghost use Rattle.session.specs.Steps.{steps_left};
@@ -9,6 +8,7 @@ ghost use Rattle.session.specs.declared.session.Session.{Session as AnySession};
 ghost use Rattle.session_model.specs.Answer.{State, Turn as TurnDue, turn};
 ghost use Rattle.plain_storage.specs.Images.{AreClean, OtherFilesStay};
 ghost use Rattle.plain_storage.specs.Keeping.{AreOpen, Keeps, held_in, storage_of};
+ghost use Rattle.plain_storage.specs.Logs.{HasFullLog};
 ghost use Rattle.store_run.specs.Answer.{held_behind};
 ghost use Rattle.store_run.specs.Serving.{IsAt, IsTurnCut};
 ghost use Rattle.store_run.specs.Within.{IsSteady, IsWithin, LineBegun, MayCarry, StandsFor, any_record};
@@ -39,13 +39,12 @@ fn carry_on<K: Sink, D: Disk>(
     ensures others { IsTrue D.tells → OtherFilesStay (D.reads disk.old) (D.reads disk.new) (D.leaves disk.old) (D.leaves disk.new) }
     ensures stop { IsTrue K.tells → IsTrue D.tells → AreClean (D.reads disk.old) (D.leaves disk.old) → (session : AnySession) (kept : Bool) (line : LineBegun) → IsTrue kept
         → IsWithin K.tells kept line (Gives any_record step session) plain.old (D.reads disk.old) (K.written sink.old)
-        → IfErr result (λ e. IsTurnCut line.turn line.held e line.written (K.written sink.new) (D.leaves disk.new)) }
+        → IfErr result (λ e. IsTurnCut line.turn line.held e line.written (K.written sink.new) (D.reads disk.new) (D.leaves disk.new)) }
     ensures disk_faults { D.faults disk.old ≤ D.faults disk.new }
     ensures sink_faults { K.faults sink.old ≤ K.faults sink.new }
     ensures write_fault { IsErrOf result Stop.WriteFault → Rose (K.faults sink.old) (K.faults sink.new) }
     ensures storage_fault { IsErrOf result Stop.StorageFault → Rose (D.faults disk.old) (D.faults disk.new) }
-    ensures full { IsTrue D.tells → IsErrOf result Stop.Full
-        → (2 ^ 40 - 64 < length_of (payloads_of (D.reads disk.new 0))) ⊎ (2 ^ 40 - 64 < length_of (payloads_of (D.reads disk.new 1))) }
+    ensures full { IsTrue D.tells → IsErrOf result Stop.Full → HasFullLog (D.reads disk.new) }
     ensures not_read { IsErrOf result Stop.ReadFault → ⊥ }
     ensures not_long { IsErrOf result Stop.InputTooLong → ⊥ }
 {
@@ -88,14 +87,13 @@ pub fn serve_line<K: Sink, D: Disk>(
 
     // What is written and kept where the run ends within the line.
     ensures stop { IsTrue K.tells → IsTrue D.tells → AreClean (D.reads disk.old) (D.leaves disk.old) → (now : State) → IsAt session.old plain.old now → Keeps plain.old now.types (D.reads disk.old)
-        → IfErr result (λ e. IsTurnCut (turn most_bytes now line.now) (held_in plain.old now.types) e (K.written sink.old) (K.written sink.new) (D.leaves disk.new)) }
+        → IfErr result (λ e. IsTurnCut (turn most_bytes now line.now) (held_in plain.old now.types) e (K.written sink.old) (K.written sink.new) (D.reads disk.new) (D.leaves disk.new)) }
 
     ensures disk_faults { D.faults disk.old ≤ D.faults disk.new }
     ensures sink_faults { K.faults sink.old ≤ K.faults sink.new }
     ensures write_fault { IsErrOf result Stop.WriteFault → Rose (K.faults sink.old) (K.faults sink.new) }
     ensures storage_fault { IsErrOf result Stop.StorageFault → Rose (D.faults disk.old) (D.faults disk.new) }
-    ensures full { IsTrue D.tells → IsErrOf result Stop.Full
-        → (2 ^ 40 - 64 < length_of (payloads_of (D.reads disk.new 0))) ⊎ (2 ^ 40 - 64 < length_of (payloads_of (D.reads disk.new 1))) }
+    ensures full { IsTrue D.tells → IsErrOf result Stop.Full → HasFullLog (D.reads disk.new) }
     ensures not_read { IsErrOf result Stop.ReadFault → ⊥ }
     ensures not_long { IsErrOf result Stop.InputTooLong → ⊥ }
 {

@@ -1,15 +1,16 @@
 // A whole run.
-ghost use Rattle.std.specs.Prelude.{◌≡◌, ◌<◌, ◌≤◌, ◌-◌, ◌^◌, ◌++◌, ◌⊎◌, [], ℕ, List, IsTrue, IfOk, length, drop, codes};
+ghost use Rattle.std.specs.Prelude.{◌≡◌, ◌<◌, ◌≤◌, ◌++◌, ◌⊎◌, [], ℕ, List, IsTrue, IfOk, length, drop, codes};
 ghost use Rattle.store_io.specs.Disk.{Rose};
-ghost use Rattle.gated_log.specs.Log.{length_of, payloads_of};
 ghost use Rattle.session_model.specs.Answer.{State};
 ghost use Rattle.plain_storage.specs.Held.{IsPlainFault, IsPlainStored, PlainHeld};
 ghost use Rattle.plain_storage.specs.Images.{AreClean, EachPair, OtherFilesStay};
 ghost use Rattle.plain_storage.specs.Keeping.{AreOpen, IsStart, Keeps, held_in};
+ghost use Rattle.plain_storage.specs.Logs.{HasFullLog};
 ghost use Rattle.store_run.specs.declared.status.Cause.{Cause};
+ghost use Rattle.store_run.specs.Acknowledged.{acknowledged};
 ghost use Rattle.store_run.specs.Answer.{answer, opened_on};
 ghost use Rattle.store_run.specs.Progress.{StandsBehind};
-ghost use Rattle.store_run.specs.Run.{HoldsAcknowledged, IsCleanWith, IsFrontOf, IsRun, Puts, acknowledged};
+ghost use Rattle.store_run.specs.Run.{HoldsAcknowledged, IsCleanWith, IsFrontOf, IsRun, Puts};
 ghost use Rattle.store_run.specs.Serving.{IsAt};
 ghost use Rattle.store_run.specs.Statuses.{status_of};
 
@@ -79,7 +80,7 @@ fn serve_script<S: Source, K: Sink, D: Disk>(
     requires at { (now : State) × IsAt session.old plain.old now }
     requires logs { IsTrue D.tells → AreOpen plain.old (D.reads disk.old) }
     ensures run { IsTrue S.tells → IsTrue K.tells → IsTrue D.tells → AreClean (D.reads disk.old) (D.leaves disk.old) → (start : PlainHeld) → StandsBehind start [] session.old plain.old (D.reads disk.old)
-        → IsRun start result (S.left source.old) (S.left source.new) (K.written sink.old) (K.written sink.new) (D.leaves disk.new) }
+        → IsRun start result (S.left source.old) (S.left source.new) (K.written sink.old) (K.written sink.new) (D.reads disk.new) (D.leaves disk.new) }
     ensures others { IsTrue D.tells → OtherFilesStay (D.reads disk.old) (D.reads disk.new) (D.leaves disk.old) (D.leaves disk.new) }
     ensures source_faults { S.faults source.old ≤ S.faults source.new }
     ensures sink_faults { K.faults sink.old ≤ K.faults sink.new }
@@ -91,8 +92,7 @@ fn serve_script<S: Source, K: Sink, D: Disk>(
     ensures storage_fault { result ≡ Status.StorageFault → Rose (D.faults disk.old) (D.faults disk.new) }
     ensures too_long { IsTrue S.tells → result ≡ Status.InputTooLong → (268435456 ≤ length (S.left source.old)) × (S.left source.new ≡ drop 268435456 (S.left source.old)) }
     ensures not_too_long { IsTrue S.tells → result ≡ Status.Done → length (S.left source.old) < 268435456 }
-    ensures full { IsTrue D.tells → result ≡ Status.Full
-        → (2 ^ 40 - 64 < length_of (payloads_of (D.reads disk.new 0))) ⊎ (2 ^ 40 - 64 < length_of (payloads_of (D.reads disk.new 1))) }
+    ensures full { IsTrue D.tells → result ≡ Status.Full → HasFullLog (D.reads disk.new) }
 {
     match serve_source(alloc, session, plain, disk, source, sink) {
         Ok(()) => Status::Done,
@@ -112,7 +112,7 @@ fn serve_opened<S: Source, K: Sink, D: Disk>(
     requires start { IsStart plain.old types }
     requires keeps { IsTrue D.tells → Keeps plain.old types (D.reads disk.old) }
     ensures run { IsTrue S.tells → IsTrue K.tells → IsTrue D.tells → AreClean (D.reads disk.old) (D.leaves disk.old)
-        → IsRun (held_in plain.old types) result (S.left source.old) (S.left source.new) (K.written sink.old) (K.written sink.new) (D.leaves disk.new) }
+        → IsRun (held_in plain.old types) result (S.left source.old) (S.left source.new) (K.written sink.old) (K.written sink.new) (D.reads disk.new) (D.leaves disk.new) }
     ensures others { IsTrue D.tells → OtherFilesStay (D.reads disk.old) (D.reads disk.new) (D.leaves disk.old) (D.leaves disk.new) }
     ensures source_faults { S.faults source.old ≤ S.faults source.new }
     ensures sink_faults { K.faults sink.old ≤ K.faults sink.new }
@@ -124,8 +124,7 @@ fn serve_opened<S: Source, K: Sink, D: Disk>(
     ensures storage_fault { result ≡ Status.StorageFault → Rose (D.faults disk.old) (D.faults disk.new) }
     ensures too_long { IsTrue S.tells → result ≡ Status.InputTooLong → (268435456 ≤ length (S.left source.old)) × (S.left source.new ≡ drop 268435456 (S.left source.old)) }
     ensures not_too_long { IsTrue S.tells → result ≡ Status.Done → length (S.left source.old) < 268435456 }
-    ensures full { IsTrue D.tells → result ≡ Status.Full
-        → (2 ^ 40 - 64 < length_of (payloads_of (D.reads disk.new 0))) ⊎ (2 ^ 40 - 64 < length_of (payloads_of (D.reads disk.new 1))) }
+    ensures full { IsTrue D.tells → result ≡ Status.Full → HasFullLog (D.reads disk.new) }
 {
     match first_session(alloc, plain, types) {
         Ok(mut session) => serve_script(alloc, &mut session, plain, source, sink, disk),
@@ -141,7 +140,7 @@ fn run_on<S: Source, K: Sink, D: Disk>(
     disk: &mut D,
 ) -> Status
     ensures run { IsTrue S.tells → IsTrue K.tells → IsTrue D.tells → (start : PlainHeld) → IsCleanWith start (D.reads disk.old) (D.leaves disk.old)
-        → IsRun start result (S.left source.old) (S.left source.new) (K.written sink.old) (K.written sink.new) (D.leaves disk.new) }
+        → IsRun start result (S.left source.old) (S.left source.new) (K.written sink.old) (K.written sink.new) (D.reads disk.new) (D.leaves disk.new) }
     ensures others { IsTrue D.tells → OtherFilesStay (D.reads disk.old) (D.reads disk.new) (D.leaves disk.old) (D.leaves disk.new) }
 
     ensures damaged { IsTrue D.tells → (channel : ℕ) (cause : Cause) → result ≡ Status.Damaged channel cause
@@ -163,8 +162,7 @@ fn run_on<S: Source, K: Sink, D: Disk>(
     ensures storage_fault { result ≡ Status.StorageFault → Rose (D.faults disk.old) (D.faults disk.new) }
     ensures too_long { IsTrue S.tells → result ≡ Status.InputTooLong → (268435456 ≤ length (S.left source.old)) × (S.left source.new ≡ drop 268435456 (S.left source.old)) }
     ensures not_too_long { IsTrue S.tells → result ≡ Status.Done → length (S.left source.old) < 268435456 }
-    ensures full { IsTrue D.tells → result ≡ Status.Full
-        → (2 ^ 40 - 64 < length_of (payloads_of (D.reads disk.new 0))) ⊎ (2 ^ 40 - 64 < length_of (payloads_of (D.reads disk.new 1))) }
+    ensures full { IsTrue D.tells → result ≡ Status.Full → HasFullLog (D.reads disk.new) }
 {
     match open(alloc, disk) {
         Ok((mut plain, types)) => serve_opened(alloc, &mut plain, types, source, sink, disk),
@@ -182,7 +180,7 @@ pub fn run_disk<S: Source, K: Sink, D: Disk>(
     disk: &mut D,
 ) -> Status
     ensures run { IsTrue S.tells → IsTrue K.tells → IsTrue D.tells → (start : PlainHeld) → IsCleanWith start (D.reads disk.old) (D.leaves disk.old)
-        → IsRun start result (S.left source.old) (S.left source.new) (K.written sink.old) (K.written sink.new) (D.leaves disk.new) }
+        → IsRun start result (S.left source.old) (S.left source.new) (K.written sink.old) (K.written sink.new) (D.reads disk.new) (D.leaves disk.new) }
     ensures acknowledged { IsTrue S.tells → IsTrue K.tells → IsTrue D.tells → (start : PlainHeld) → IsCleanWith start (D.reads disk.old) (D.leaves disk.old)
         → EachPair (D.leaves disk.new) (HoldsAcknowledged start (answer start (S.left source.old)).stores (acknowledged (K.written sink.old) (K.written sink.new))) }
     ensures others { IsTrue D.tells → OtherFilesStay (D.reads disk.old) (D.reads disk.new) (D.leaves disk.old) (D.leaves disk.new) }
@@ -202,16 +200,15 @@ pub fn run_disk<S: Source, K: Sink, D: Disk>(
     ensures write_fault { result ≡ Status.WriteFault → Rose (K.faults sink.old) (K.faults sink.new) }
     ensures storage_fault { result ≡ Status.StorageFault → Rose (D.faults disk.old) (D.faults disk.new) }
     ensures too_long { IsTrue S.tells → result ≡ Status.InputTooLong → (268435456 ≤ length (S.left source.old)) × (S.left source.new ≡ drop 268435456 (S.left source.old)) }
-    ensures full { IsTrue D.tells → result ≡ Status.Full
-        → (2 ^ 40 - 64 < length_of (payloads_of (D.reads disk.new 0))) ⊎ (2 ^ 40 - 64 < length_of (payloads_of (D.reads disk.new 1))) }
+    ensures full { IsTrue D.tells → result ≡ Status.Full → HasFullLog (D.reads disk.new) }
 
     // Where nothing fails and no log is full, the script is served whole, or is refused as too long.
     ensures complete { IsTrue S.tells → IsTrue D.tells → (start : PlainHeld) → IsPlainStored (D.reads disk.old 0) (D.reads disk.old 1) start
-        → length (S.left source.old) < 268435456 → length_of (payloads_of (D.reads disk.new 0)) ≤ 2 ^ 40 - 64 → length_of (payloads_of (D.reads disk.new 1)) ≤ 2 ^ 40 - 64
+        → length (S.left source.old) < 268435456 → ¬ HasFullLog (D.reads disk.new)
         → ¬ Rose (S.faults source.old) (S.faults source.new) → ¬ Rose (K.faults sink.old) (K.faults sink.new) → ¬ Rose (D.faults disk.old) (D.faults disk.new)
         → (result ≡ Status.Done) ⊎ (result ≡ Status.NoMemory) }
     ensures refused { IsTrue S.tells → IsTrue D.tells → (start : PlainHeld) → IsPlainStored (D.reads disk.old 0) (D.reads disk.old 1) start
-        → 268435456 ≤ length (S.left source.old) → length_of (payloads_of (D.reads disk.new 0)) ≤ 2 ^ 40 - 64 → length_of (payloads_of (D.reads disk.new 1)) ≤ 2 ^ 40 - 64
+        → 268435456 ≤ length (S.left source.old) → ¬ HasFullLog (D.reads disk.new)
         → ¬ Rose (S.faults source.old) (S.faults source.new) → ¬ Rose (K.faults sink.old) (K.faults sink.new) → ¬ Rose (D.faults disk.old) (D.faults disk.new)
         → (result ≡ Status.InputTooLong) ⊎ (result ≡ Status.NoMemory) }
 {

@@ -1,11 +1,11 @@
 // The bytes of a script are taken, and each line that they end is answered.
-ghost use Rattle.std.specs.Prelude.{◌≡◌, ◌<◌, ◌≤◌, ◌-◌, ◌^◌, ◌⊎◌, [], ◌∷◌, ℕ, List, IsTrue, OnOk, IfErr, IsErrOf};
+ghost use Rattle.std.specs.Prelude.{◌≡◌, ◌<◌, ◌≤◌, [], ◌∷◌, ℕ, List, IsTrue, OnOk, IfErr, IsErrOf};
 ghost use Rattle.store_io.specs.Disk.{Rose};
-ghost use Rattle.gated_log.specs.Log.{length_of, payloads_of};
 ghost use Rattle.session_model.specs.Answer.{State};
 ghost use Rattle.plain_storage.specs.Held.{PlainHeld};
 ghost use Rattle.plain_storage.specs.Images.{AreClean, OtherFilesStay};
 ghost use Rattle.plain_storage.specs.Keeping.{AreOpen};
+ghost use Rattle.plain_storage.specs.Logs.{HasFullLog};
 ghost use Rattle.store_run.specs.Serving.{IsAt};
 ghost use Rattle.store_run.specs.Progress.{IsFinished, IsPartAnswered, IsServed, Serves, Stops};
 
@@ -35,14 +35,13 @@ fn serve_byte<K: Sink, D: Disk>(
     ensures served { IsTrue K.tells → IsTrue D.tells → OnOk result (Serves session.old session.new plain.old plain.new (D.reads disk.old) (D.reads disk.new)
         unended.old.items unended.new.items (byte ∷ []) (K.written sink.old) (K.written sink.new)) }
     ensures stop { IsTrue K.tells → IsTrue D.tells → AreClean (D.reads disk.old) (D.leaves disk.old) → IfErr result (λ e. Stops session.old plain.old (D.reads disk.old)
-        unended.old.items (byte ∷ []) e (K.written sink.old) (K.written sink.new) (D.leaves disk.new)) }
+        unended.old.items (byte ∷ []) e (K.written sink.old) (K.written sink.new) (D.reads disk.new) (D.leaves disk.new)) }
 
     ensures disk_faults { D.faults disk.old ≤ D.faults disk.new }
     ensures sink_faults { K.faults sink.old ≤ K.faults sink.new }
     ensures write_fault { IsErrOf result Stop.WriteFault → Rose (K.faults sink.old) (K.faults sink.new) }
     ensures storage_fault { IsErrOf result Stop.StorageFault → Rose (D.faults disk.old) (D.faults disk.new) }
-    ensures full { IsTrue D.tells → IsErrOf result Stop.Full
-        → (2 ^ 40 - 64 < length_of (payloads_of (D.reads disk.new 0))) ⊎ (2 ^ 40 - 64 < length_of (payloads_of (D.reads disk.new 1))) }
+    ensures full { IsTrue D.tells → IsErrOf result Stop.Full → HasFullLog (D.reads disk.new) }
     ensures not_read { IsErrOf result Stop.ReadFault → ⊥ }
     ensures not_long { IsErrOf result Stop.InputTooLong → ⊥ }
 {
@@ -74,14 +73,13 @@ pub fn serve_piece<K: Sink, D: Disk>(
     ensures served { IsTrue K.tells → IsTrue D.tells → OnOk result (Serves session.old session.new plain.old plain.new (D.reads disk.old) (D.reads disk.new)
         unended.old.items unended.new.items piece.now (K.written sink.old) (K.written sink.new)) }
     ensures stop { IsTrue K.tells → IsTrue D.tells → AreClean (D.reads disk.old) (D.leaves disk.old) → IfErr result (λ e. Stops session.old plain.old (D.reads disk.old)
-        unended.old.items piece.now e (K.written sink.old) (K.written sink.new) (D.leaves disk.new)) }
+        unended.old.items piece.now e (K.written sink.old) (K.written sink.new) (D.reads disk.new) (D.leaves disk.new)) }
 
     ensures disk_faults { D.faults disk.old ≤ D.faults disk.new }
     ensures sink_faults { K.faults sink.old ≤ K.faults sink.new }
     ensures write_fault { IsErrOf result Stop.WriteFault → Rose (K.faults sink.old) (K.faults sink.new) }
     ensures storage_fault { IsErrOf result Stop.StorageFault → Rose (D.faults disk.old) (D.faults disk.new) }
-    ensures full { IsTrue D.tells → IsErrOf result Stop.Full
-        → (2 ^ 40 - 64 < length_of (payloads_of (D.reads disk.new 0))) ⊎ (2 ^ 40 - 64 < length_of (payloads_of (D.reads disk.new 1))) }
+    ensures full { IsTrue D.tells → IsErrOf result Stop.Full → HasFullLog (D.reads disk.new) }
     ensures not_read { IsErrOf result Stop.ReadFault → ⊥ }
     ensures not_long { IsErrOf result Stop.InputTooLong → ⊥ }
 {
@@ -110,14 +108,13 @@ pub fn serve_end<K: Sink, D: Disk>(
         → IsFinished start session.new plain.new (D.reads disk.new) script written0 (K.written sink.new)) }
     ensures stop { IsTrue K.tells → IsTrue D.tells → AreClean (D.reads disk.old) (D.leaves disk.old) → IfErr result (λ e. (start : PlainHeld) (script written0 : List ℕ)
         → IsServed start session.old plain.old (D.reads disk.old) script unended.now written0 (K.written sink.old)
-        → IsPartAnswered start script e written0 (K.written sink.new) (D.leaves disk.new)) }
+        → IsPartAnswered start script e written0 (K.written sink.new) (D.reads disk.new) (D.leaves disk.new)) }
 
     ensures disk_faults { D.faults disk.old ≤ D.faults disk.new }
     ensures sink_faults { K.faults sink.old ≤ K.faults sink.new }
     ensures write_fault { IsErrOf result Stop.WriteFault → Rose (K.faults sink.old) (K.faults sink.new) }
     ensures storage_fault { IsErrOf result Stop.StorageFault → Rose (D.faults disk.old) (D.faults disk.new) }
-    ensures full { IsTrue D.tells → IsErrOf result Stop.Full
-        → (2 ^ 40 - 64 < length_of (payloads_of (D.reads disk.new 0))) ⊎ (2 ^ 40 - 64 < length_of (payloads_of (D.reads disk.new 1))) }
+    ensures full { IsTrue D.tells → IsErrOf result Stop.Full → HasFullLog (D.reads disk.new) }
     ensures not_read { IsErrOf result Stop.ReadFault → ⊥ }
     ensures not_long { IsErrOf result Stop.InputTooLong → ⊥ }
 {

@@ -1,13 +1,14 @@
 // The top call.
-ghost use Rattle.std.specs.Prelude.{◌≡◌, ◌<◌, ◌≤◌, ◌-◌, ◌^◌, ◌⊎◌, ◌∷◌, [], ◌++◌, ℕ, List, false, IsTrue, length, drop, codes, ◌↔◌};
+ghost use Rattle.std.specs.Prelude.{◌≡◌, ◌<◌, ◌≤◌, ◌⊎◌, ◌∷◌, [], ◌++◌, ℕ, List, false, IsTrue, length, drop, codes, ◌↔◌};
 ghost use Rattle.store_io.specs.Disk.{Rose};
-ghost use Rattle.gated_log.specs.Log.{payloads_of, length_of};
 ghost use Rattle.plain_storage.specs.Held.{IsPlainFault, IsPlainStored, PlainHeld};
 ghost use Rattle.plain_storage.specs.Images.{EachPair, OtherFilesStay};
+ghost use Rattle.plain_storage.specs.Logs.{HasFullLog};
+ghost use Rattle.store_run.specs.Acknowledged.{acknowledged};
 ghost use Rattle.store_run.specs.Answer.{answer, held_after};
 ghost use Rattle.store_run.specs.Lines.{lines_of};
 ghost use Rattle.store_run.specs.Words.{are_run_words};
-ghost use Rattle.store_run.specs.Run.{IsAnswered, IsCleanWith, HoldsAcknowledged, HoldsPrefix, IsDue, acknowledged, Puts, IsFrontOf};
+ghost use Rattle.store_run.specs.Run.{IsAnswered, IsCleanWith, HoldsAcknowledged, HoldsPrefix, IsDue, Puts, IsFrontOf};
 ghost use Rattle.store_run.specs.Top.{OfOneDisk};
 ghost use Rattle.store_run.specs.declared.status.Cause.{Cause};
 
@@ -74,18 +75,18 @@ pub fn run_alone<S: Source, K: Sink, D: Disk>(
     // `InputTooLong` comes only once 268,435,456 bytes were read; `refused` says that it comes then.
     ensures too_long { IsTrue S.tells → result ≡ Status.InputTooLong → (268435456 ≤ length (S.left source.old)) × (S.left source.new ≡ drop 268435456 (S.left source.old)) }
 
-    // `Full` comes only where a log is full and a store or a type of the script is due.
-    ensures full { IsTrue D.tells → result ≡ Status.Full → OfOneDisk disks.old.items disks.new.items (λ old new. (2 ^ 40 - 64 < length_of (payloads_of (D.reads new 0))) ⊎ (2 ^ 40 - 64 < length_of (payloads_of (D.reads new 1)))) }
+    // `Full` comes only where a log is over its limit; over a clean disk it is the log for what the line behind the answered ones is to keep, a store or a type.
+    ensures full { IsTrue D.tells → result ≡ Status.Full → OfOneDisk disks.old.items disks.new.items (λ old new. HasFullLog (D.reads new)) }
     ensures store_due { IsTrue S.tells → IsTrue K.tells → IsTrue D.tells → (start : PlainHeld) → OfOneDisk disks.old.items disks.new.items (λ old new.
-        IsCleanWith start (D.reads old) (D.leaves old) → result ≡ Status.Full → IsDue start (S.left source.old) (K.written sink.old) (K.written sink.new)) }
+        IsCleanWith start (D.reads old) (D.leaves old) → result ≡ Status.Full → IsDue start (S.left source.old) (K.written sink.old) (K.written sink.new) (D.reads new)) }
 
     // Where no count rises and no log is full, a script is answered whole if it is not too long, and is refused if it is.
     ensures complete { IsTrue S.tells → IsTrue D.tells → IsTrue (are_run_words words.now.items) → (start : PlainHeld) → OfOneDisk disks.old.items disks.new.items (λ old new.
-        IsPlainStored (D.reads old 0) (D.reads old 1) start → length (S.left source.old) < 268435456 → length_of (payloads_of (D.reads new 0)) ≤ 2 ^ 40 - 64 → length_of (payloads_of (D.reads new 1)) ≤ 2 ^ 40 - 64
+        IsPlainStored (D.reads old 0) (D.reads old 1) start → length (S.left source.old) < 268435456 → ¬ HasFullLog (D.reads new)
         → ¬ Rose (S.faults source.old) (S.faults source.new) → ¬ Rose (K.faults sink.old) (K.faults sink.new) → ¬ Rose (D.faults old) (D.faults new)
         → (result ≡ Status.Done) ⊎ (result ≡ Status.NoMemory)) }
     ensures refused { IsTrue S.tells → IsTrue D.tells → IsTrue (are_run_words words.now.items) → (start : PlainHeld) → OfOneDisk disks.old.items disks.new.items (λ old new.
-        IsPlainStored (D.reads old 0) (D.reads old 1) start → 268435456 ≤ length (S.left source.old) → length_of (payloads_of (D.reads new 0)) ≤ 2 ^ 40 - 64 → length_of (payloads_of (D.reads new 1)) ≤ 2 ^ 40 - 64
+        IsPlainStored (D.reads old 0) (D.reads old 1) start → 268435456 ≤ length (S.left source.old) → ¬ HasFullLog (D.reads new)
         → ¬ Rose (S.faults source.old) (S.faults source.new) → ¬ Rose (K.faults sink.old) (K.faults sink.new) → ¬ Rose (D.faults old) (D.faults new)
         → (result ≡ Status.InputTooLong) ⊎ (result ≡ Status.NoMemory)) }
 {

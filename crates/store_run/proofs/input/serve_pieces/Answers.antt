@@ -20,8 +20,8 @@ returns-in_err-n-clause-stop g c takes answers told clean start stands =
     let written0 = g.K.Sink.written c.args.sink.now in
     let written = g.K.Sink.written c.loop-taken.sink in
     let served = part.3 answers told start stands in
-    if_stopped c.from_residual.result stop_.ReadFault (λ e. IsPartAnswered start (g.S.Source.left c.args.source.now) e written0 written leaves) c.from_residual.ensures.1
-    (subst (λ (l : List ℕ). IsPartAnswered start l stop_.ReadFault written0 written leaves) (sym part.2)
+    if_stopped c.from_residual.result stop_.ReadFault (λ e. IsPartAnswered start (g.S.Source.left c.args.source.now) e written0 written reads leaves) c.from_residual.ensures.1
+    (subst (λ (l : List ℕ). IsPartAnswered start l stop_.ReadFault written0 written reads leaves) (sym part.2)
     (served_answered start session plain reads part.0 c.loop-taken.unended.items written0 written leaves stop_.ReadFault (g.S.Source.left c.loop-taken.source) served
     (stands_images start served.lines session plain reads leaves served.stands (so.clean told clean)) (λ full. cc)))
 
@@ -36,7 +36,7 @@ returns-clause-stop g c takes answers told clean start stands =
     let written0 = g.K.Sink.written c.args.sink.now in
     let written = g.K.Sink.written c.loop-taken.sink in
     let served = part.3 answers told start stands in
-    subst (λ (l : List ℕ). IsPartAnswered start l stop_.InputTooLong written0 written leaves) (sym part.2)
+    subst (λ (l : List ℕ). IsPartAnswered start l stop_.InputTooLong written0 written reads leaves) (sym part.2)
     (served_answered start session plain reads part.0 c.loop-taken.unended.items written0 written leaves stop_.InputTooLong (g.S.Source.left c.loop-taken.source) served
     (stands_images start served.lines session plain reads leaves served.stands (so.clean told clean)) (λ full. cc))
 
@@ -61,8 +61,8 @@ returns-in_err-serve_end-clause-stop g c takes answers told clean start stands =
     let served = subst (λ (l : List ℕ). IsServed start c.loop-taken.session c.loop-taken.plain (g.D.Disk.reads c.loop-taken.disk) part.0 l written0 (g.K.Sink.written c.loop-taken.sink))
     (sym c.deref.ensures.value) (part.3 answers told start stands) in
     if_stopped c.from_residual-in_err-serve_end.result e
-    (λ f. IsPartAnswered start (g.S.Source.left c.args.source.now) f written0 (g.K.Sink.written c.serve_end.new.sink) (g.D.Disk.leaves c.serve_end.new.disk)) c.from_residual-in_err-serve_end.ensures.1
-    (subst (λ (l : List ℕ). IsPartAnswered start l e written0 (g.K.Sink.written c.serve_end.new.sink) (g.D.Disk.leaves c.serve_end.new.disk)) all
+    (λ f. IsPartAnswered start (g.S.Source.left c.args.source.now) f written0 (g.K.Sink.written c.serve_end.new.sink) (g.D.Disk.reads c.serve_end.new.disk) (g.D.Disk.leaves c.serve_end.new.disk)) c.from_residual-in_err-serve_end.ensures.1
+    (subst (λ (l : List ℕ). IsPartAnswered start l e written0 (g.K.Sink.written c.serve_end.new.sink) (g.D.Disk.reads c.serve_end.new.disk) (g.D.Disk.leaves c.serve_end.new.disk)) all
     (c.in_err-serve_end.ensures.stop answers told (so.clean told clean) start part.0 written0 served))
 
 pub returns-in_err-serve_piece-clause-stop : goal.returns-in_err-serve_piece-clause-stop
@@ -75,8 +75,8 @@ returns-in_err-serve_piece-clause-stop g c takes answers told clean start stands
     let left = g.S.Source.left c.read_piece.new.source in
     let all : g.S.Source.left c.args.source.now ≡ part.0 ++ (piece ++ left) = part.2 ∙ ap (λ (l : List ℕ). part.0 ++ l) (c.in_ok-n.ensures.given takes) in
     if_stopped c.from_residual-in_err-serve_piece.result e
-    (λ f. IsPartAnswered start (g.S.Source.left c.args.source.now) f written0 (g.K.Sink.written c.serve_piece.new.sink) (g.D.Disk.leaves c.serve_piece.new.disk)) c.from_residual-in_err-serve_piece.ensures.1
-    (subst (λ (l : List ℕ). IsPartAnswered start l e written0 (g.K.Sink.written c.serve_piece.new.sink) (g.D.Disk.leaves c.serve_piece.new.disk)) (sym all)
+    (λ f. IsPartAnswered start (g.S.Source.left c.args.source.now) f written0 (g.K.Sink.written c.serve_piece.new.sink) (g.D.Disk.reads c.serve_piece.new.disk) (g.D.Disk.leaves c.serve_piece.new.disk)) c.from_residual-in_err-serve_piece.ensures.1
+    (subst (λ (l : List ℕ). IsPartAnswered start l e written0 (g.K.Sink.written c.serve_piece.new.sink) (g.D.Disk.reads c.serve_piece.new.disk) (g.D.Disk.leaves c.serve_piece.new.disk)) (sym all)
     (c.in_err-serve_piece.ensures.stop answers told (so.clean told clean) start part.0 written0 left (part.3 answers told start stands)))
 
 pub loop-taken-preserved : goal.loop-taken-preserved

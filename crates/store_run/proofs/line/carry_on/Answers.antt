@@ -4,6 +4,7 @@ use Rattle.graph_model.specs.declared.ask.StorageFault.TheVariants as storage
 use Rattle.session.specs.Dealing.{Gives}
 use Rattle.session.specs.declared.session.Turn.{Turn as Step}
 use Rattle.plain_storage.specs.Keeping.{storage_of, types_with}
+use Rattle.plain_storage.specs.Logs.{HasFullLog}
 use Rattle.store_run.specs.Faults.{storage_stop}
 use Rattle.store_run.specs.Serving.{IsTurnCut}
 use Rattle.store_run.specs.Within.{IsWithin, any_record}
@@ -11,7 +12,7 @@ use Rattle.store_run.specs.declared.stop.Stop.{Stop}
 use Rattle.store_run.specs.declared.stop.Stop.TheVariants as stop
 use Rattle.store_run.proofs.CutWithin.{ask_cut, print_cut}
 use Rattle.store_run.proofs.StepsWithin.{printed_within, served_within}
-use Rattle.store_run.proofs.Stops.{failed_so, if_stopped, storage_full}
+use Rattle.store_run.proofs.Stops.{failed_so, if_stopped, some_full, stopped_full, storage_full}
 use Rattle.store_run.proofs.line.carry_on.Goals as goal
 
 pub returns-in_ok-reply-in-Ask-clause-carried : goal.returns-in_ok-reply-in-Ask-clause-carried
@@ -42,10 +43,17 @@ returns-in_err-reply-in-Ask-clause-stop g c answers tells clean session kept lin
     let written = g.K.Sink.written c.args.sink.now in
     let fault = c.in_err-reply-in-Ask.field-0.0 in
     let asked = subst (λ (s : Step). IsWithin g.K.Sink.tells kept line (Gives any_record s session) c.args.plain.now now written) c.in-Ask.is within in
-    if_stopped c.from_residual.result (storage_stop fault) (λ (e : Stop). IsTurnCut line.turn line.held e line.written written (g.D.Disk.leaves c.serve.new.disk)) c.from_residual.ensures.1
-    (ask_cut g.K.Sink.tells kept line c.in-Ask.ask session c.args.plain.now now written (g.D.Disk.leaves c.serve.new.disk) (storage_stop fault) answers k
-    (λ full. storage_full fault _ full (λ number is. c.in_err-reply-in-Ask.ensures.due number (failed_so fault (storage.Full number) is)))
+    if_stopped c.from_residual.result (storage_stop fault) (λ (e : Stop). IsTurnCut line.turn line.held e line.written written (g.D.Disk.reads c.serve.new.disk) (g.D.Disk.leaves c.serve.new.disk)) c.from_residual.ensures.1
+    (ask_cut g.K.Sink.tells kept line c.in-Ask.ask session c.args.plain.now now written (g.D.Disk.reads c.serve.new.disk) (g.D.Disk.leaves c.serve.new.disk) (storage_stop fault) answers k
+    (λ full. storage_full fault _ full (λ number is. c.in_err-reply-in-Ask.ensures.full tells number (failed_so fault (storage.Full number) is)))
     (c.in_err-reply-in-Ask.ensures.stop tells clean) asked)
+
+pub returns-in_err-reply-in-Ask-clause-full : goal.returns-in_err-reply-in-Ask-clause-full
+returns-in_err-reply-in-Ask-clause-full g c tells is =
+    let fault = c.in_err-reply-in-Ask.field-0.0 in
+    let reads = g.D.Disk.reads c.serve.new.disk in
+    storage_full fault (HasFullLog reads) (stopped_full c.from_residual.result (storage_stop fault) c.from_residual.ensures.1 is)
+    (λ number full. some_full c.in-Ask.ask reads (c.in_err-reply-in-Ask.ensures.full tells number (failed_so fault (storage.Full number) full)))
 
 pub returns-in_err-put-in-Print-clause-stop : goal.returns-in_err-put-in-Print-clause-stop
 returns-in_err-put-in-Print-clause-stop g c answers tells clean session kept line k within =
@@ -55,7 +63,7 @@ returns-in_err-put-in-Print-clause-stop g c answers tells clean session kept lin
     let same : c.as_slice.result.now ≡ c.in-Print.line = cc in
     let printed = subst (λ (s : Step). IsWithin g.K.Sink.tells kept line (Gives any_record s session) c.args.plain.now now written) c.in-Print.is within in
     if_stopped c.from_residual-in_err-put-in-Print.result stop.WriteFault
-    (λ (e : Stop). IsTurnCut line.turn line.held e line.written (g.K.Sink.written c.put.new.self) (g.D.Disk.leaves c.args.disk.now)) c.from_residual-in_err-put-in-Print.ensures.1
+    (λ (e : Stop). IsTurnCut line.turn line.held e line.written (g.K.Sink.written c.put.new.self) now (g.D.Disk.leaves c.args.disk.now)) c.from_residual-in_err-put-in-Print.ensures.1
     (print_cut g.K.Sink.tells kept line c.in-Print.line session c.args.plain.now now written (g.K.Sink.written c.put.new.self)
     (g.D.Disk.leaves c.args.disk.now) stop.WriteFault failed.0 answers k clean refl
     (subst (λ (b : List ℕ). g.K.Sink.written c.put.new.self ≡ written ++ take failed.0 b) same failed.2) printed)

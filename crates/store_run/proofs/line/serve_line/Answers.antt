@@ -26,7 +26,7 @@ returns-in_err-from_slice-clause-stop g c answers tells clean now at keeps =
     let line = c.args.line.now in
     let reads = g.D.Disk.reads c.args.disk.now in
     let leaves = g.D.Disk.leaves c.args.disk.now in
-    if_stopped c.from_residual.result stop.NoMemory (λ (e : Stop). IsTurnCut (turn most_bytes now line) (held_in c.args.plain.now now.types) e written written leaves) c.from_residual.ensures.1
+    if_stopped c.from_residual.result stop.NoMemory (λ (e : Stop). IsTurnCut (turn most_bytes now line) (held_in c.args.plain.now now.types) e written written reads leaves) c.from_residual.ensures.1
     (within_cut g.K.Sink.tells true (begun_at now c.args.plain.now line written) (StandsFor (Some (given.Line line)) c.args.session.now) c.args.plain.now reads written leaves stop.NoMemory
     answers refl clean memory_is_not_full (line_begins g.K.Sink.tells true now c.args.session.now c.args.plain.now line line reads written at (λ k. keeps) refl))
 
@@ -45,7 +45,7 @@ returns-in_err-step-clause-stop g c answers tells clean now at keeps =
     let line = c.args.line.now in
     let reads = g.D.Disk.reads c.args.disk.now in
     let leaves = g.D.Disk.leaves c.args.disk.now in
-    if_stopped c.from_residual-in_err-step.result stop.NoMemory (λ (e : Stop). IsTurnCut (turn most_bytes now line) (held_in c.args.plain.now now.types) e written written leaves)
+    if_stopped c.from_residual-in_err-step.result stop.NoMemory (λ (e : Stop). IsTurnCut (turn most_bytes now line) (held_in c.args.plain.now now.types) e written written reads leaves)
     c.from_residual-in_err-step.ensures.1
     (within_cut g.K.Sink.tells true (begun_at now c.args.plain.now line written) (StandsFor (Some (given.Line line)) c.args.session.now) c.args.plain.now reads written leaves stop.NoMemory
     answers refl clean memory_is_not_full (line_begins g.K.Sink.tells true now c.args.session.now c.args.plain.now line line reads written at (λ k. keeps) refl))
@@ -80,7 +80,7 @@ returns-in_err-given-clause-stop g c answers tells clean now at keeps =
     let line = begun_at now c.args.plain.now c.args.line.now (g.K.Sink.written c.args.sink.now) in
     let cut = c.in_err-given.ensures.stop answers tells (c.steps.invariant.clean tells clean) c.steps.session true line refl (c.steps.invariant.within now at true (λ k. tells) (λ k. keeps)) in
     if_stopped c.from_residual-in_err-given.result c.in_err-given.field-0.0
-    (λ (e : Stop). IsTurnCut line.turn line.held e line.written (g.K.Sink.written c.carry_on.new.sink) (g.D.Disk.leaves c.carry_on.new.disk)) c.from_residual-in_err-given.ensures.1 cut
+    (λ (e : Stop). IsTurnCut line.turn line.held e line.written (g.K.Sink.written c.carry_on.new.sink) (g.D.Disk.reads c.carry_on.new.disk) (g.D.Disk.leaves c.carry_on.new.disk)) c.from_residual-in_err-given.ensures.1 cut
 
 pub returns-in_err-given-clause-others : goal.returns-in_err-given-clause-others
 returns-in_err-given-clause-others g c tells =
@@ -104,7 +104,7 @@ returns-in_err-step-2-clause-stop g c answers tells clean now at keeps =
     let written = g.K.Sink.written c.carry_on.new.sink in
     let leaves = g.D.Disk.leaves c.carry_on.new.disk in
     let within = c.in_ok-given.ensures.carried c.steps.session true line (λ k. tells) (c.steps.invariant.within now at true (λ k. tells) (λ k. keeps)) in
-    if_stopped c.from_residual-in_err-step-2.result stop.NoMemory (λ (e : Stop). IsTurnCut line.turn line.held e line.written written leaves) c.from_residual-in_err-step-2.ensures.1
+    if_stopped c.from_residual-in_err-step-2.result stop.NoMemory (λ (e : Stop). IsTurnCut line.turn line.held e line.written written reads leaves) c.from_residual-in_err-step-2.ensures.1
     (within_cut g.K.Sink.tells true line (StandsFor c.in_ok-given.field-0 c.steps.session) c.carry_on.new.plain reads written leaves stop.NoMemory answers refl
     (c.in_ok-given.ensures.clean tells (c.steps.invariant.clean tells clean)) memory_is_not_full within)
 

@@ -11,24 +11,26 @@ use Rattle.store_run.proofs.run.run_on.Goals as goal
 pub returns-in-Ok-clause-run : goal.returns-in-Ok-clause-run
 returns-in-Ok-clause-run g c takes answers told start ready =
     subst (λ (held : PlainHeld). IsRun held c.serve_opened.result (g.S.Source.left c.args.source.now) (g.S.Source.left c.serve_opened.new.source)
-    (g.K.Sink.written c.args.sink.now) (g.K.Sink.written c.serve_opened.new.sink) (g.D.Disk.leaves c.serve_opened.new.disk))
+    (g.K.Sink.written c.args.sink.now) (g.K.Sink.written c.serve_opened.new.sink) (g.D.Disk.reads c.serve_opened.new.disk) (g.D.Disk.leaves c.serve_opened.new.disk))
     (c.in-Ok.ensures.only told start ready.stored) (c.serve_opened.ensures.run takes answers told (c.in-Ok.ensures.clean told ready.clean))
 
 pub returns-in-Err-NoMemory-clause-run : goal.returns-in-Err-NoMemory-clause-run
 returns-in-Err-NoMemory-clause-run g c takes answers told start ready =
     let written = g.K.Sink.written c.args.sink.now in
     let left = g.S.Source.left c.args.source.now in
+    let reads = g.D.Disk.reads c.open.new.disk in
     let leaves = g.D.Disk.leaves c.open.new.disk in
-    stopped_run start left left written written leaves stop_.NoMemory
-    (nothing_answered start left stop_.NoMemory written leaves (c.open.ensures.stop told ready.clean start ready.stored) (λ full. cc))
+    stopped_run start left left written written reads leaves stop_.NoMemory
+    (nothing_answered start left stop_.NoMemory written reads leaves (c.open.ensures.stop told ready.clean start ready.stored) (λ full. cc))
 
 pub returns-in-Err-Fault-clause-run : goal.returns-in-Err-Fault-clause-run
 returns-in-Err-Fault-clause-run g c takes answers told start ready =
     let written = g.K.Sink.written c.args.sink.now in
     let left = g.S.Source.left c.args.source.now in
+    let reads = g.D.Disk.reads c.open.new.disk in
     let leaves = g.D.Disk.leaves c.open.new.disk in
-    stopped_run start left left written written leaves stop_.StorageFault
-    (nothing_answered start left stop_.StorageFault written leaves (c.open.ensures.stop told ready.clean start ready.stored) (λ full. cc))
+    stopped_run start left left written written reads leaves stop_.StorageFault
+    (nothing_answered start left stop_.StorageFault written reads leaves (c.open.ensures.stop told ready.clean start ready.stored) (λ full. cc))
 
 pub returns-in-Ok-clause-fault : goal.returns-in-Ok-clause-fault
 returns-in-Ok-clause-fault g c told fault = absurd (c.in-Ok.ensures.not_ok told fault)

@@ -21,5 +21,5 @@ returns-in-Err-clause-run g c takes answers told clean =
     let reads = g.D.Disk.reads c.args.disk.now in
     let leaves = g.D.Disk.leaves c.args.disk.now in
     let keeps = c.requires.keeps told in
-    stopped_run start script script written written leaves stop_.NoMemory
-    (nothing_answered start script stop_.NoMemory written leaves (clean_images start reads leaves clean keeps.stored) (λ full. cc))
+    stopped_run start script script written written reads leaves stop_.NoMemory
+    (nothing_answered start script stop_.NoMemory written reads leaves (clean_images start reads leaves clean keeps.stored) (λ full. cc))

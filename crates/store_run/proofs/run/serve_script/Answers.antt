@@ -16,6 +16,7 @@ returns-in-Err-clause-run g c takes answers told clean start stands =
     let left = g.S.Source.left c.serve_source.new.source in
     let written0 = g.K.Sink.written c.args.sink.now in
     let written = g.K.Sink.written c.serve_source.new.sink in
+    let reads = g.D.Disk.reads c.serve_source.new.disk in
     let leaves = g.D.Disk.leaves c.serve_source.new.disk in
-    subst (λ status. IsRun start status script left written0 written leaves) (sym c.status_of.ensures)
-    (stopped_run start script left written0 written leaves c.in-Err.stop (c.in-Err.ensures.stop takes answers told clean start stands))
+    subst (λ status. IsRun start status script left written0 written reads leaves) (sym c.status_of.ensures)
+    (stopped_run start script left written0 written reads leaves c.in-Err.stop (c.in-Err.ensures.stop takes answers told clean start stands))

@@ -21,7 +21,7 @@ returns-in_err-push-clause-stop g c answers told clean =
     let written = g.K.Sink.written c.args.sink.now in
     let reads = g.D.Disk.reads c.args.disk.now in
     let leaves = g.D.Disk.leaves c.args.disk.now in
-    if_stopped c.from_residual.result stop_.NoMemory (λ e. Stops session plain reads c.args.unended.now.items (c.args.byte ∷ []) e written written leaves) c.from_residual.ensures.1
+    if_stopped c.from_residual.result stop_.NoMemory (λ e. Stops session plain reads c.args.unended.now.items (c.args.byte ∷ []) e written written reads leaves) c.from_residual.ensures.1
     (λ start read written0 left served.
     served_answered start session plain reads read c.args.unended.now.items written0 written leaves stop_.NoMemory (c.args.byte ∷ left) served
     (stands_images start served.lines session plain reads leaves served.stands clean) (λ full. cc))
@@ -43,17 +43,18 @@ returns-in_err-serve_line-clause-stop g c answers told clean =
     let reads = g.D.Disk.reads c.args.disk.now in
     let written = g.K.Sink.written c.args.sink.now in
     let written' = g.K.Sink.written c.serve_line.new.sink in
+    let reads' = g.D.Disk.reads c.serve_line.new.disk in
     let leaves = g.D.Disk.leaves c.serve_line.new.disk in
     let e = c.in_err-serve_line.field-0.0 in
     let unended = c.args.unended.now.items in
-    if_stopped c.from_residual-in_err-serve_line.result e (λ f. Stops session plain reads unended (c.args.byte ∷ []) f written written' leaves) c.from_residual-in_err-serve_line.ensures.1
+    if_stopped c.from_residual-in_err-serve_line.result e (λ f. Stops session plain reads unended (c.args.byte ∷ []) f written written' reads' leaves) c.from_residual-in_err-serve_line.ensures.1
     (λ start read written0 left served.
     let now = state_after (opened_on start) served.lines in
-    let cut = subst (λ (l : List ℕ). IsTurnCut (turn most_bytes now l) (held_in plain now.types) e written written' leaves) c.deref.ensures.value
+    let cut = subst (λ (l : List ℕ). IsTurnCut (turn most_bytes now l) (held_in plain now.types) e written written' reads' leaves) c.deref.ensures.value
     (c.in_err-serve_line.ensures.stop answers told clean now served.stands.at_ served.stands.keeps) in
-    let here = subst (λ (h : PlainHeld). IsTurnCut (turn most_bytes now unended) h e written written' leaves) served.stands.held cut in
-    subst (λ (b : ℕ). IsPartAnswered start (read ++ (b ∷ [] ++ left)) e written0 written' leaves) (sym c.if-byte-ne10.false)
-    (cut_answered start (read ++ (10 ∷ [] ++ left)) served.lines (lines_of left) unended e written0 written written' leaves
+    let here = subst (λ (h : PlainHeld). IsTurnCut (turn most_bytes now unended) h e written written' reads' leaves) served.stands.held cut in
+    subst (λ (b : ℕ). IsPartAnswered start (read ++ (b ∷ [] ++ left)) e written0 written' reads' leaves) (sym c.if-byte-ne10.false)
+    (cut_answered start (read ++ (10 ∷ [] ++ left)) served.lines (lines_of left) unended e written0 written written' reads' leaves
     (fed_lines start session plain reads read unended written0 written left served) served.answered here))
 
 pub returns-clause-served : goal.returns-clause-served

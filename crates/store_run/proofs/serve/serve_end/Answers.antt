@@ -25,16 +25,17 @@ returns-in_err-serve_line-clause-stop g c answers told clean =
     let reads = g.D.Disk.reads c.args.disk.now in
     let written = g.K.Sink.written c.args.sink.now in
     let written' = g.K.Sink.written c.serve_line.new.sink in
+    let reads' = g.D.Disk.reads c.serve_line.new.disk in
     let leaves = g.D.Disk.leaves c.serve_line.new.disk in
     let e = c.in_err-serve_line.field-0.0 in
     if_stopped c.from_residual.result e
-    (λ f. (start : PlainHeld) (script written0 : List ℕ) → IsServed start session plain reads script unended written0 written → IsPartAnswered start script f written0 written' leaves)
+    (λ f. (start : PlainHeld) (script written0 : List ℕ) → IsServed start session plain reads script unended written0 written → IsPartAnswered start script f written0 written' reads' leaves)
     c.from_residual.ensures.1
     (λ start script written0 served.
     let now = state_after (opened_on start) served.lines in
-    let here = subst (λ (h : PlainHeld). IsTurnCut (turn most_bytes now unended) h e written written' leaves) served.stands.held
+    let here = subst (λ (h : PlainHeld). IsTurnCut (turn most_bytes now unended) h e written written' reads' leaves) served.stands.held
     (c.in_err-serve_line.ensures.stop answers told clean now served.stands.at_ served.stands.keeps) in
-    cut_answered start script served.lines [] unended e written0 written written' leaves (end_lines start session plain reads script unended written0 written served some) served.answered here)
+    cut_answered start script served.lines [] unended e written0 written written' reads' leaves (end_lines start session plain reads script unended written0 written served some) served.answered here)
 
 pub returns-clause-finished : goal.returns-clause-finished
 returns-clause-finished g c answers told start script written0 served =

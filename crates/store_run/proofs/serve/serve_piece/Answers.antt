@@ -14,10 +14,11 @@ returns-in_err-serve_byte-clause-stop g c answers told clean =
     let within : i < length piece = omega arith in
     let e = c.in_err-serve_byte.field-0.0 in
     let written' = g.K.Sink.written c.serve_byte.new.sink in
+    let reads' = g.D.Disk.reads c.serve_byte.new.disk in
     let leaves = g.D.Disk.leaves c.serve_byte.new.disk in
-    if_stopped c.from_residual.result e (λ f. Stops c.args.session.now c.args.plain.now (g.D.Disk.reads c.args.disk.now) c.args.unended.now.items piece f (g.K.Sink.written c.args.sink.now) written' leaves) c.from_residual.ensures.1
+    if_stopped c.from_residual.result e (λ f. Stops c.args.session.now c.args.plain.now (g.D.Disk.reads c.args.disk.now) c.args.unended.now.items piece f (g.K.Sink.written c.args.sink.now) written' reads' leaves) c.from_residual.ensures.1
     (λ start read written0 left served.
-    subst (λ (l : List ℕ). IsPartAnswered start l e written0 written' leaves) (piece_split read piece left i within)
+    subst (λ (l : List ℕ). IsPartAnswered start l e written0 written' reads' leaves) (piece_split read piece left i within)
     (c.in_err-serve_byte.ensures.stop answers told (c.loop-byte.invariant.clean told clean) start (read ++ take i piece) written0 (drop (i + 1) piece ++ left)
     (c.loop-byte.invariant.served answers told start read written0 served)))
 

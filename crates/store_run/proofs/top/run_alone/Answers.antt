@@ -1,7 +1,8 @@
 -- A run on the only disk of the list.
 use Rattle.plain_storage.specs.Images.{EachPair}
+use Rattle.store_run.specs.Acknowledged.{acknowledged}
 use Rattle.store_run.specs.Answer.{answer}
-use Rattle.store_run.specs.Run.{HoldsAcknowledged, HoldsPrefix, IsCleanWith, acknowledged}
+use Rattle.store_run.specs.Run.{HoldsAcknowledged, HoldsPrefix, IsCleanWith}
 use Rattle.store_run.proofs.KeptStores.{prefix_acknowledged}
 use Rattle.store_run.proofs.OneDisk.{of_changed, of_same}
 use Rattle.store_run.proofs.Promise.{untouched_prefix}
