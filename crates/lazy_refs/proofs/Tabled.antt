@@ -1,14 +1,10 @@
 -- The model's conversion is that of the table.
-use Rattle.std.proofs.Common.{◌≡◌, ℕ, zero, suc, Bool, true, false, cond, ◌&&◌, List, [], ◌∷◌, map, Option, Some, None, Result, Ok, refl, sym, ap, ◌∙◌, subst}
-use Rattle.std.specs.Prelude.{slice_get, option_map, ◌↔◌}
+use Rattle.std.proofs.Common.{◌≡◌, ℕ, Bool, true, false, cond, List, [], ◌∷◌, Option, Some, None, Result, refl, sym, ap, ◌∙◌, subst}
+use Rattle.std.specs.Prelude.{◌↔◌}
 use Rattle.std.specs.List.{AllZip}
-use Rattle.std.proofs.lemmas.Bool.{and_from}
 use Rattle.graph_model.specs.declared.entity.Entity.{Entity}
-use Rattle.type_desc.specs.declared.desc.Kind.{Kind}
-use Rattle.type_desc.specs.declared.desc.Member.{Member}
 use Rattle.type_desc.specs.declared.desc.TypeDesc.{TypeDesc}
 use Rattle.entity_form.specs.Form.{Holds}
-use Rattle.entity_form.specs.Reading.{values_at}
 use Rattle.entity_form.specs.Values.{kinds_of}
 use Rattle.entity_form.specs.declared.value.Object.{Object}
 use Rattle.entity_form.specs.declared.value.Value.{Value}
@@ -17,10 +13,9 @@ use Rattle.refactor_table.specs.Pairs.{AreSound}
 use Rattle.refactor_table.specs.declared.name.Pair.{Pair}
 use Rattle.legacy_mapping.specs.Conversion as legacy
 use Rattle.legacy_mapping.specs.Conversion.{IsConversion, Suits}
-use Rattle.legacy_mapping.specs.Faults.{DiffersAt, HaveOneKind}
-use Rattle.legacy_mapping.specs.Sources.{AreSources, HaveOwnNames, IsSource, IsTarget, names_of}
-use Rattle.session_model.specs.Types.{all_of_kinds, desc_at, desc_of, is_of_kind, is_root_type, latest_from, latest_id, root_type, source_of, sources_of, target_name}
-use Rattle.session_model.specs.Loading.{Converted, conversion, converted, converted_from, converted_if, converted_to, values_in}
+use Rattle.legacy_mapping.specs.Sources.{HaveOwnNames, IsSource, IsTarget, names_of}
+use Rattle.session_model.specs.Types.{all_of_kinds, desc_of, is_root_type, latest_from, latest_id, root_type, sources_of, target_name}
+use Rattle.session_model.specs.Loading.{Converted, conversion, converted, converted_from, values_in}
 use Rattle.session_model.proofs.Declaring.{latest_recorded}
 use Rattle.lazy_refs.specs.Tables.{IsByTable, IsNewest}
 use Rattle.lazy_refs.proofs.Alike.{converted-same}
