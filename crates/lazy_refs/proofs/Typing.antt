@@ -1,12 +1,12 @@
 -- What is loaded is of known types, and its values are of their kinds.
-use Rattle.std.proofs.Common.{◌≡◌, ℕ, Bool, true, false, cond, List, [], ◌∷◌, ◌++◌, map, Option, Some, None, Result, Ok, refl, sym, ap, ◌∙◌, subst}
-use Rattle.std.specs.Prelude.{All, IsSomeAnd}
-use Rattle.std.proofs.lemmas.List.Elements.{All-push, All-same}
+use Rattle.std.proofs.Common.{◌≡◌, ℕ, Bool, true, false, cond, List, ◌++◌, Option, Some, None, Ok, refl, sym, ap, ◌∙◌, subst}
+use Rattle.std.specs.Prelude.{IsSomeAnd}
+use Rattle.std.proofs.lemmas.List.Elements.{All-push}
 use Rattle.graph_model.specs.declared.entity.Entity.{Entity}
 use Rattle.type_desc.specs.declared.desc.TypeDesc.{TypeDesc}
 use Rattle.type_dictionary.specs.Latest.{desc_of, latest_of}
 use Rattle.entity_form.specs.Reading.{values_at}
-use Rattle.entity_form.specs.Values.{AreOf, kind_of, kinds_of}
+use Rattle.entity_form.specs.Values.{AreOf, kinds_of}
 use Rattle.entity_form.specs.declared.value.Object.{Object}
 use Rattle.entity_form.specs.declared.value.Value.{Value}
 use Rattle.entity_form.proofs.Forms.{holds_again}

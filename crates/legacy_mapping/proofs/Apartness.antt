@@ -6,7 +6,6 @@ use Rattle.type_desc.specs.OwnNames.{HaveOwnNames, IsNamed, names_of}
 use Rattle.refactor_table.specs.Pairs.{AreSound, Leads, pair_of}
 use Rattle.refactor_table.specs.declared.name.Pair.{Pair}
 use Rattle.refactor_table.specs.declared.name.RefName.TheVariants.{OfMember}
-use Rattle.type_desc.specs.declared.desc.Member.{Member}
 use Rattle.type_desc.specs.declared.desc.TypeDesc.{TypeDesc}
 use Rattle.legacy_mapping.specs.Sources.{AreApart, IsCarried, IsPaired, IsSource}
 

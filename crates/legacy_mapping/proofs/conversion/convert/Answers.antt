@@ -1,7 +1,6 @@
 -- The converted values are of the new type's kinds.
-use Rattle.std.proofs.Common.{◌≡◌, sym, subst, List, rules}
-use Rattle.entity_form.specs.Values.{AreOf, kinds_of}
-use Rattle.entity_form.specs.declared.value.Value.{Value}
+use Rattle.std.proofs.Common.{◌≡◌, rules}
+use Rattle.entity_form.specs.Values.{kinds_of}
 use Rattle.legacy_mapping.specs.Conversion.{converted}
 use Rattle.legacy_mapping.proofs.Conversions.{kinds-converted}
 use Rattle.legacy_mapping.proofs.conversion.convert.Goals as goal
