@@ -4,6 +4,9 @@ use Rattle.std.specs.Prelude.{◌↔◌}
 use Rattle.std.specs.List.{AllZip}
 use Rattle.graph_model.specs.declared.entity.Entity.{Entity}
 use Rattle.type_desc.specs.declared.desc.TypeDesc.{TypeDesc}
+use Rattle.type_desc.specs.OwnNames.{HaveOwnNames, names_of}
+use Rattle.type_desc.specs.Root.{root_desc}
+use Rattle.type_dictionary.specs.Latest.{desc_of, latest_from, latest_of}
 use Rattle.entity_form.specs.Form.{Holds}
 use Rattle.entity_form.specs.Values.{kinds_of}
 use Rattle.entity_form.specs.declared.value.Object.{Object}
@@ -12,10 +15,10 @@ use Rattle.entity_form.proofs.Forms.{holds_again}
 use Rattle.refactor_table.specs.Pairs.{AreSound}
 use Rattle.refactor_table.specs.declared.name.Pair.{Pair}
 use Rattle.legacy_mapping.specs.Conversion as legacy
-use Rattle.legacy_mapping.specs.Conversion.{IsConversion, Suits}
-use Rattle.legacy_mapping.specs.Sources.{HaveOwnNames, IsSource, IsTarget, names_of}
-use Rattle.session_model.specs.Types.{all_of_kinds, desc_of, is_root_type, latest_from, latest_id, root_type, sources_of, target_name}
-use Rattle.session_model.specs.Loading.{Converted, conversion, converted, converted_from, values_in}
+use Rattle.legacy_mapping.specs.Conversion.{IsConversion, Suits, converted}
+use Rattle.legacy_mapping.specs.Sources.{IsSource, IsTarget}
+use Rattle.session_model.specs.Types.{all_of_kinds, is_root_type, sources_of, target_name}
+use Rattle.session_model.specs.Loading.{Converted, conversion, converted_from, values_in}
 use Rattle.session_model.proofs.Declaring.{latest_recorded}
 use Rattle.lazy_refs.specs.Tables.{IsByTable, IsNewest}
 use Rattle.lazy_refs.proofs.Alike.{converted-same}
@@ -29,14 +32,14 @@ record IsThere (types : List TypeDesc) (id : ℕ) : Type 0 where
   pub desc : TypeDesc
   pub known : desc_of types id ≡ Some desc
 
-latest_there : (types : List TypeDesc) (name : List ℕ) (id : ℕ) → latest_id types name ≡ Some id → IsThere types id
+latest_there : (types : List TypeDesc) (name : List ℕ) (id : ℕ) → latest_of types name ≡ Some id → IsThere types id
 latest_there types name id latest = by (is_root_type name) refl
   where
     by : (b : Bool) → is_root_type name ≡ b → IsThere types id
     by true root =
         let first : Some 1 ≡ Some id = sym (ap (λ (b : Bool). cond b (Some 1) (latest_from 16 types name)) root) ∙ latest in
         let one : 1 ≡ id = cc in
-        record { desc = root_type; known = ap (desc_of types) (sym one) }
+        record { desc = root_desc; known = ap (desc_of types) (sym one) }
     by false other = let r = latest_recorded types name id other latest in record { desc = r.desc; known = r.known }
 
 -- ---- what the model's conversion is
@@ -50,7 +53,7 @@ of_entity : (types : List TypeDesc) (pairs : List Pair) (entity : Entity) (old :
 of_entity types pairs entity old known = ap (converted_from types pairs entity) known
 
 to_newest : (types : List TypeDesc) (pairs : List Pair) (entity : Entity) (old new : TypeDesc) (id : ℕ) (values : List Value) → Holds (kinds_of old) entity.refs entity.plain values
-    → latest_id types (target_name pairs old.name) ≡ Some id → desc_of types id ≡ Some new
+    → latest_of types (target_name pairs old.name) ≡ Some id → desc_of types id ≡ Some new
     → converted_from types pairs entity (Some old) ≡ cond (all_of_kinds pairs old new new.members) (Converted.Loaded (made_by pairs old new id values)) Converted.WrongKind
 to_newest types pairs entity old new id values holds latest known = latest_is types pairs old new id entity latest known
     ∙ ap (λ (r : Result (List Value) ℕ). cond (all_of_kinds pairs old new new.members) (Converted.Loaded (made_by pairs old new id (values_in r))) Converted.WrongKind)
@@ -58,7 +61,7 @@ to_newest types pairs entity old new id values holds latest known = latest_is ty
 
 -- ---- it is by the table
 
-newest_by_name : (types : List TypeDesc) (pairs : List Pair) (old new : TypeDesc) (id : ℕ) → AreSound pairs → latest_id types (target_name pairs old.name) ≡ Some id → desc_of types id ≡ Some new → IsNewest types pairs old id new
+newest_by_name : (types : List TypeDesc) (pairs : List Pair) (old new : TypeDesc) (id : ℕ) → AreSound pairs → latest_of types (target_name pairs old.name) ≡ Some id → desc_of types id ≡ Some new → IsNewest types pairs old id new
 newest_by_name types pairs old new id sound latest known = record { name = target_name pairs old.name; target = is_target pairs old.name sound; latest = latest; known = known }
 
 conversion_is : (pairs : List Pair) (old new : TypeDesc) (values : List Value) → all_of_kinds pairs old new new.members ≡ true
@@ -74,14 +77,14 @@ abbrev IsTold : List TypeDesc → List Pair → Entity → TypeDesc → List Val
 IsTold types pairs entity old values = IsByTable types pairs old values (converted_from types pairs entity (Some old))
 
 told : (types : List TypeDesc) (pairs : List Pair) (entity : Entity) (old : TypeDesc) (values : List Value) → AreSound pairs → Holds (kinds_of old) entity.refs entity.plain values → IsTold types pairs entity old values
-told types pairs entity old values sound holds = by (latest_id types (target_name pairs old.name)) refl
+told types pairs entity old values sound holds = by (latest_of types (target_name pairs old.name)) refl
   where
     fits : (id : ℕ) (new : TypeDesc) → IsNewest types pairs old id new → (b : Bool) → all_of_kinds pairs old new new.members ≡ b
         → IsByTable types pairs old values (cond b (Converted.Loaded (made_by pairs old new id values)) Converted.WrongKind)
     fits id new newest true all = (new, newest, conversion_is pairs old new values all)
     fits id new newest false all = let d = differ_somewhere pairs old new all in (id, new, newest, d.0, d.1)
 
-    by : (o : Option ℕ) → latest_id types (target_name pairs old.name) ≡ o → IsTold types pairs entity old values
+    by : (o : Option ℕ) → latest_of types (target_name pairs old.name) ≡ o → IsTold types pairs entity old values
     by None latest = subst (IsByTable types pairs old values) (sym (no_latest types pairs old entity latest)) (target_name pairs old.name, is_target pairs old.name sound, latest)
     by (Some id) latest =
         let there = latest_there types (target_name pairs old.name) id latest in
@@ -110,8 +113,8 @@ one_for_all pairs old new values new_values sound own c =
       c.values_are ∙ ap (legacy.converted values (kinds_of new)) same ∙ converted-same values (kinds_of new) (sources_of pairs old new new.members),
     )
 
-latest_once : (types : List TypeDesc) (pairs : List Pair) (old : TypeDesc) (name : List ℕ) (o : Option ℕ) → AreSound pairs → IsTarget pairs old.name name → latest_id types name ≡ o → latest_id types (target_name pairs old.name) ≡ o
-latest_once types pairs old name o sound target latest = ap (latest_id types) (sym (target_once pairs old.name name sound target)) ∙ latest
+latest_once : (types : List TypeDesc) (pairs : List Pair) (old : TypeDesc) (name : List ℕ) (o : Option ℕ) → AreSound pairs → IsTarget pairs old.name name → latest_of types name ≡ o → latest_of types (target_name pairs old.name) ≡ o
+latest_once types pairs old name o sound target latest = ap (latest_of types) (sym (target_once pairs old.name name sound target)) ∙ latest
 
 said : (types : List TypeDesc) (pairs : List Pair) (entity : Entity) (old : TypeDesc) (values : List Value) (c : Converted) → AreSound pairs → HaveOwnNames old.members
     → Holds (kinds_of old) entity.refs entity.plain values → IsByTable types pairs old values c → converted_from types pairs entity (Some old) ≡ c

@@ -5,6 +5,7 @@ use Rattle.std.specs.Option.{ForSome}
 use Rattle.std.specs.Prelude.{slice_get, option_map}
 use Rattle.std.proofs.lemmas.Bool.{cases_lt}
 use Rattle.std.proofs.lemmas.Option.{slice_get-map, slice_get_within}
+use Rattle.type_desc.specs.OwnNames.{names_of, HaveOwnNames}
 use Rattle.entity_form.specs.Values.{kinds_of}
 use Rattle.refactor_table.specs.Pairs.{AreSound}
 use Rattle.refactor_table.specs.declared.name.Pair.{Pair}
@@ -12,7 +13,7 @@ use Rattle.type_desc.specs.declared.desc.Member.{Member}
 use Rattle.type_desc.specs.declared.desc.TypeDesc.{TypeDesc}
 use Rattle.legacy_mapping.specs.Conversion.{Suits}
 use Rattle.legacy_mapping.specs.Faults.{DiffersAt, IsFirstDiffering}
-use Rattle.legacy_mapping.specs.Sources.{names_of, AreApart, HaveOwnNames, IsSource}
+use Rattle.legacy_mapping.specs.Sources.{AreApart, IsSource}
 use Rattle.legacy_mapping.proofs.Apartness.{sources_apart}
 use Rattle.legacy_mapping.proofs.Lists.{take-more, all_zip-push, all_zip-unpush}
 use Rattle.legacy_mapping.proofs.PositionLemmas.{is_named, length-names}
