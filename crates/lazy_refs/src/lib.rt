@@ -9,4 +9,5 @@ mod step;
 mod tests;
 
 pub use loading::Loading;
+pub use mapping::read;
 pub use step::LoadStep;
