@@ -31,3 +31,5 @@ pub mod LoadCounts
 pub mod FollowLines
 pub mod LoadTurns
 pub mod NewRoot
+pub mod KnownLoaded
+pub mod SteadySteps
