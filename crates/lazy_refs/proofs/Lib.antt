@@ -3,6 +3,7 @@ pub mod Finding
 pub mod Naming
 pub mod Sourcing
 pub mod Applying
+pub mod Typing
 pub mod Waiting
 pub mod Turning
 pub mod Orders

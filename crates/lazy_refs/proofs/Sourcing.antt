@@ -1,16 +1,20 @@
 -- The sources of the model are those that a plan has, and kinds differ where a plan says so.
-use Rattle.std.proofs.Common.{◌≡◌, ℕ, zero, suc, Bool, true, false, not, ◌&&◌, List, [], ◌∷◌, Option, Some, None, refl, sym, ap, ◌∙◌, subst}
+use Rattle.std.proofs.Common.{◌≡◌, ℕ, zero, suc, Bool, true, false, not, ◌&&◌, List, [], ◌∷◌, map, Option, Some, None, refl, sym, ap, ◌∙◌, subst}
 use Rattle.std.specs.Prelude.{slice_get, option_map}
 use Rattle.std.specs.Str.{bytes_eq}
 use Rattle.std.specs.List.{AllZip, position}
+use Rattle.std.specs.Option.{ForSome}
 use Rattle.std.proofs.lemmas.Bool.{and_parts, and_from, not-true}
+use Rattle.std.proofs.lemmas.Option.{slice_get-map}
 use Rattle.type_desc.specs.declared.desc.Kind.{Kind}
 use Rattle.type_desc.specs.declared.desc.Kind.TheVariants as kinds
 use Rattle.type_desc.specs.declared.desc.Member.{Member}
 use Rattle.type_desc.specs.declared.desc.TypeDesc.{TypeDesc}
+use Rattle.entity_form.specs.Values.{kinds_of}
 use Rattle.refactor_table.specs.Pairs.{AreSound, Leads, pair_of}
 use Rattle.refactor_table.specs.declared.name.Pair.{Pair}
 use Rattle.refactor_table.specs.declared.name.RefName.TheVariants.{OfMember}
+use Rattle.legacy_mapping.specs.Conversion.{Suits}
 use Rattle.legacy_mapping.specs.Faults.{DiffersAt, HaveOneKind}
 use Rattle.legacy_mapping.specs.Sources.{AreSources, HaveOwnNames, IsAlike, IsCarried, IsNamed, IsPaired, IsSource, names_of}
 use Rattle.legacy_mapping.proofs.Plans.{source_within}
@@ -121,7 +125,7 @@ kind_same kinds.Ref = refl
 kind_same kinds.Lazy = refl
 kind_same kinds.Refs = refl
 
-same_kind : (a b : Kind) → is_same_kind a b ≡ true → a ≡ b
+pub same_kind : (a b : Kind) → is_same_kind a b ≡ true → a ≡ b
 same_kind kinds.Int kinds.Int h = refl
 same_kind kinds.Text kinds.Text h = refl
 same_kind kinds.Bytes kinds.Bytes h = refl
@@ -180,3 +184,18 @@ kinds_differ pairs old new k sound own d = by (all_of_kinds pairs old new new.me
         let kind : is_kind d.member.kind (kind_at old (Some d.index)) ≡ true = subst (λ (s : Option ℕ). is_of_kind old d.member.kind s ≡ true) one here in
         let same : is_same_kind d.member.kind d.source.kind ≡ true = subst (λ (f : Option Kind). is_kind d.member.kind f ≡ true) (kind_there old d.index d.source d.source_is) kind in
         absurd (d.differs (sym (same_kind d.member.kind d.source.kind same)))
+
+-- a source of the member's kind
+of_kind : (old : TypeDesc) (kind : Kind) (s : Option ℕ) → is_of_kind old kind s ≡ true → ForSome s (λ i. slice_get (kinds_of old) i ≡ Some kind)
+of_kind old kind None h = λ j e. absurd cc
+of_kind old kind (Some i) h = λ j e. let same : i ≡ j = cc in ap (slice_get (kinds_of old)) (sym same) ∙ found (slice_get old.members i) refl h
+  where
+    found : (o : Option Member) → slice_get old.members i ≡ o → is_kind kind (option_map (λ (m : Member). m.kind) o) ≡ true → slice_get (kinds_of old) i ≡ Some kind
+    found None at is = absurd cc
+    found (Some m) at is = slice_get-map (λ (m : Member). m.kind) old.members i ∙ (ap (option_map (λ (m : Member). m.kind)) at ∙ ap Some (sym (same_kind kind m.kind is)))
+
+pub suits_all : (pairs : List Pair) (old new : TypeDesc) (ms : List Member) → all_of_kinds pairs old new ms ≡ true → Suits (kinds_of old) (map (λ (m : Member). m.kind) ms) (sources_of pairs old new ms)
+suits_all pairs old new [] all = tt
+suits_all pairs old new (m ∷ ms) all =
+    let parts = and_parts (is_of_kind old m.kind (source_of pairs old new m.name)) (all_of_kinds pairs old new ms) all in
+    (of_kind old m.kind (source_of pairs old new m.name) parts.0, suits_all pairs old new ms parts.1)

@@ -1,5 +1,5 @@
 -- What becomes of the entities of a stored type.
-use Rattle.std.specs.Prelude.{◌≡◌, ℕ, true, false, List, Option, Some, Ok}
+use Rattle.std.specs.Prelude.{◌≡◌, ℕ, true, false, List, Option, Some, Ok, All, IsSomeAnd}
 use Rattle.std.specs.Ordering.{nat_cmp}
 use Rattle.std.specs.Map.{lookup}
 use Rattle.std.specs.BTreeMap.{is_at}
@@ -62,7 +62,11 @@ AreMappings types pairs kept = (type_id : ℕ) (mapping : Mapping) → mapping_a
 
 -- the object's type is known, and its values are of the type's kinds
 abbrev pub IsTyped : List TypeDesc → Object → Type 0
-IsTyped types object = (desc : TypeDesc) × (desc_of types object.type_id ≡ Some desc) × AreOf (kinds_of desc) object.values
+IsTyped types object = IsSomeAnd (desc_of types object.type_id) (λ desc. AreOf (kinds_of desc) object.values)
+
+-- so it is with each of these
+abbrev pub AreTypedIn : List TypeDesc → List (ℕ × Object) → Type 0
+AreTypedIn types objects = All (λ p. IsTyped types p.1) objects
 
 -- this becomes of every entity that holds the object
 abbrev pub Becomes : List TypeDesc → List Pair → Object → Outcome → Type 0

@@ -10,6 +10,7 @@ use Rattle.session_model.specs.Instances.{Instances}
 use Rattle.session_model.specs.Loading.{Converted, conversion, load, loading_graph}
 use Rattle.object_registry.specs.Registered.{put_loaded}
 use Rattle.lazy_refs.specs.Forms.{HasForm}
+use Rattle.lazy_refs.specs.Mappings.{AreTypedIn}
 use Rattle.lazy_refs.specs.Walks.{Progress, loaded_ids, object_at, refused_as}
 use Rattle.lazy_refs.specs.declared.step.LoadStep.{LoadStep}
 use Rattle.lazy_refs.specs.declared.step.LoadStep.TheVariants as steps
@@ -115,3 +116,9 @@ IsBrokenWhere types p None (steps.Broken id) = ⊥
 IsBrokenWhere types p None step = Unit {0}
 IsBrokenWhere types p (Some entity) (steps.Broken id) = (id ≡ p.asked) × ¬ (HasForm types entity)
 IsBrokenWhere types p (Some entity) step = HasForm types entity
+
+-- the objects that are loaded so far, or all of them, are typed
+abbrev pub IsTypedStep : List TypeDesc → Progress → LoadStep → Type 0
+IsTypedStep types p (steps.Want id) = AreTypedIn types p.loaded
+IsTypedStep types p (steps.Ready all) = AreTypedIn types all
+IsTypedStep types p step = Unit {0}

@@ -7,8 +7,8 @@ ghost use Rattle.refactor_table.specs.declared.name.Pair.{Pair as AnyPair};
 ghost use Rattle.session_model.specs.Instances.{Instances};
 ghost use Rattle.type_desc.specs.declared.desc.TypeDesc.{TypeDesc as AnyDesc};
 ghost use Rattle.lazy_refs.specs.Advances.{IsAskedNext, IsDoneNext};
-ghost use Rattle.lazy_refs.specs.Steps.{IsBrokenWhere, IsGiven, IsLoading, IsStep};
-ghost use Rattle.lazy_refs.specs.Mappings.{AreMappings, Becomes, IsTyped, seen};
+ghost use Rattle.lazy_refs.specs.Steps.{IsBrokenWhere, IsGiven, IsLoading, IsStep, IsTypedStep};
+ghost use Rattle.lazy_refs.specs.Mappings.{AreMappings, AreTypedIn, Becomes, IsTyped, seen};
 ghost use Rattle.lazy_refs.specs.Walks.{AreKnown, Ends, GoesOn, IsAsFar, IsNext, Takes, Turns, TurnsBy, TurnsWith, begun, lower_of, of_reason};
 
 use crate::mapping::{Mapper, Mappings, Outcome, read};
@@ -83,6 +83,7 @@ impl Loading {
         // For any types, pairs and objects in memory, and in every graph.
         ensures loading { (types : List AnyDesc) (pairs : List AnyPair) (instances : Instances) (g : Graph) → IsTrue (rises (ids g)) → IsLoading types pairs instances g id result }
         ensures mappings { (types : List AnyDesc) (pairs : List AnyPair) → AreMappings types pairs result.mappings }
+        ensures typed { (types : List AnyDesc) → AreTypedIn types result.loaded }
     {
         Loading {
             alloc,
@@ -252,8 +253,10 @@ impl Loading {
         given: Option<Entity>,
     ) -> Result<LoadStep, NoMemory>
         // Types and pairs are those of the calls before.
-        requires { AreMappings types.now table.now self.old.mappings }
+        requires mappings { AreMappings types.now table.now self.old.mappings }
+        requires typed { AreTypedIn types.now self.old.loaded }
         ensures mappings { OnOk result (AreMappings types.now table.now self.new.mappings) }
+        ensures typed { IfOk result (IsTypedStep types.now self.new) }
         // The entity that was given has not its type's form.
         ensures broken { IfOk result (IsBrokenWhere types.now self.old given) }
         ensures done { IfOk result (IsDoneNext given self.old self.new) }

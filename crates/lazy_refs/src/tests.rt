@@ -1,7 +1,7 @@
 //! Examples of loadings.
 
-ghost use Rattle.std.specs.Prelude.{OnOk};
-ghost use Rattle.lazy_refs.specs.Mappings.{AreMappings};
+ghost use Rattle.std.specs.Prelude.{IfOk, IsTrue, OnOk};
+ghost use Rattle.lazy_refs.specs.Mappings.{AreMappings, AreTypedIn};
 
 use crate::{LoadStep, Loading};
 use entity_form::{Object, Value};
@@ -54,8 +54,10 @@ fn asks(
     given: Entity,
     id: u64,
 ) -> Result<bool, NoMemory>
-    requires { AreMappings types.now table.now loading.old.mappings }
-    ensures { OnOk result (AreMappings types.now table.now loading.new.mappings) }
+    requires mappings { AreMappings types.now table.now loading.old.mappings }
+    requires typed { AreTypedIn types.now loading.old.loaded }
+    ensures mappings { OnOk result (AreMappings types.now table.now loading.new.mappings) }
+    ensures typed { IfOk result (λ asks. IsTrue asks → AreTypedIn types.now loading.new.loaded) }
 {
     match loading.next(registry, types, table, Some(given)) {
         Ok(LoadStep::Want(wanted)) => Ok(wanted == id),
@@ -94,9 +96,11 @@ fn loads_two(
     let first = entity(alloc, 16, &[1025], &FIVE)?;
     let second = entity(alloc, 16, &[1024], &FIVE)?;
     let mut loading = Loading::start(alloc, 1024);
-    let asked = asks(&mut loading, registry, types, table, first, 1025)?;
+    if !asks(&mut loading, registry, types, table, first, 1025)? {
+        return Ok(false);
+    }
     match loading.next(registry, types, table, Some(second)) {
-        Ok(LoadStep::Ready(all)) => Ok(asked && are_two(all.as_slice())),
+        Ok(LoadStep::Ready(all)) => Ok(are_two(all.as_slice())),
         Ok(_) => Ok(false),
         Err(NoMemory) => Err(NoMemory),
     }
