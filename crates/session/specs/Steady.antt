@@ -40,7 +40,7 @@ pub record IsSteadyStep (memory : Memory) (loading : Progress) (step : LoadStep)
   pub mappings : AreMappings memory.types memory.table loading.mappings
   pub typed : IsTypedStep memory.types loading step
   pub asks : IsAskedNext loading step
-  pub purpose : IsSteadyPurpose memory purpose
+  pub steady : IsSteadyPurpose memory purpose
 
 -- what a phase keeps while its reply is waited for
 abbrev pub IsSteadyPhase : Memory → Phase → Type 0

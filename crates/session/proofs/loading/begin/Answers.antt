@@ -13,7 +13,7 @@ take_step-requires-clause-steady c = record {
   mappings = c.in_ok-step.ensures.mappings;
   typed = c.in_ok-step.ensures.typed;
   asks = c.in_ok-step.ensures.asks;
-  purpose = c.requires.steady;
+  steady = c.requires.steady;
 }
 
 pub returns-clause-whole : goal.returns-clause-whole

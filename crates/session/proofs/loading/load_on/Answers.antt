@@ -16,7 +16,7 @@ take_step-requires-clause-steady c = record {
   mappings = c.in_ok-step.ensures.mappings;
   typed = c.in_ok-step.ensures.typed;
   asks = c.in_ok-step.ensures.asks;
-  purpose = c.requires.purpose;
+  steady = c.requires.purpose;
 }
 
 pub returns-clause-broken : goal.returns-clause-broken

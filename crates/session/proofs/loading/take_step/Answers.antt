@@ -10,8 +10,8 @@ use Rattle.session.proofs.loading.take_step.Goals as goal
 
 pub returns-in-Want-clause-steady : goal.returns-in-Want-clause-steady
 returns-in-Want-clause-steady c =
-    let s : IsSteadyStep c.args.memory.now c.args.loading (steps.Want c.in-Want.id) c.args.purpose = subst (λ (step : LoadStep). IsSteadyStep c.args.memory.now c.args.loading step c.args.purpose) c.in-Want.is c.requires.steady in
-    (s.asks, (record { mappings = s.mappings; typed = s.typed }, s.purpose))
+    let s : IsSteadyStep c.args.memory.now c.args.loading (steps.Want c.in-Want.id) c.args.purpose = subst (λ (step : LoadStep). IsSteadyStep c.args.memory.now c.args.loading step c.args.steady) c.in-Want.is c.requires.steady in
+    (s.asks, (record { mappings = s.mappings; typed = s.typed }, s.steady))
 
 pub returns-in-Want-clause-broken : goal.returns-in-Want-clause-broken
 returns-in-Want-clause-broken c = rw c.in-Want.is refl
@@ -27,7 +27,7 @@ end-requires c = record {
   last = is_last c.args.step c.in_default.not-Want;
   known = c.requires.known;
   typed = typed_end c.args.memory.now.types c.args.loading c.args.step c.requires.steady.typed;
-  steady = c.requires.steady.purpose;
+  steady = c.requires.steady.steady;
 }
 
 pub returns-in_default-clause-meets : goal.returns-in_default-clause-meets
