@@ -19,6 +19,9 @@ returns-in-Ready-clause-steps c = λ g. rw c.in-Ready.is (c.hold.ensures.steps g
 pub refuse-requires : goal.refuse-requires
 refuse-requires c = is_failed c.args.step c.requires.last c.in_default.not-Ready
 
+pub returns-in_default-clause-known : goal.returns-in_default-clause-known
+returns-in_default-clause-known c = IfOk-weaker c.refuse.result _ _ (λ outcome is. c.requires.known) c.refuse.ensures
+
 pub returns-in_default-clause-steady : goal.returns-in_default-clause-steady
 returns-in_default-clause-steady c = IfOk-weaker c.refuse.result _ _ (λ outcome is. failure_steady c.args.memory.now c.args.step outcome is) c.refuse.ensures
 

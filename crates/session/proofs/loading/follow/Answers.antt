@@ -23,6 +23,9 @@ returns-in-Err-clause-meets c = λ is_next_type storage state at started.
     if_meets_said is_next_type (Err c.in-Err.stop) c.outcome_of.result c.args.memory.now storage (follow_turn state c.args.name.now c.args.member.now c.args.new) c.outcome_of.ensures
     (says_refusal c.in-Err.stop c.args.memory.now storage state (follow_turn state c.args.name.now c.args.member.now c.args.new) at (c.in-Err.ensures.judged storage state at started))
 
+pub returns-in-Err-clause-known : goal.returns-in-Err-clause-known
+returns-in-Err-clause-known c = IfOk-weaker c.outcome_of.result _ _ (λ o is. c.requires) c.outcome_of.ensures
+
 pub returns-in-Err-clause-steady : goal.returns-in-Err-clause-steady
 returns-in-Err-clause-steady c = IfOk-weaker c.outcome_of.result _ _ (λ o is. said_steady c.args.memory.now (Err c.in-Err.stop) o is) c.outcome_of.ensures
 
