@@ -6,11 +6,14 @@ use Rattle.session.proofs.Told.{if_meets_said}
 use Rattle.session.proofs.loading.bind_loaded.Goals as goal
 
 pub bind_found-said-requires : goal.bind_found-said-requires
-bind_found-said-requires c = record { free = c.requires.free; known = c.requires.known }
+bind_found-said-requires c = c.requires.free
 
 pub returns-clause-meets : goal.returns-clause-meets
 returns-clause-meets c = λ is_next_type storage due g.
-    if_meets_said is_next_type c.bind_found-said.result c.outcome_of.result c.bind_found-said.new.memory storage due c.outcome_of.ensures (c.bind_found-said.ensures storage g.state due g.stands g.turn_is g.sound)
+    if_meets_said is_next_type c.bind_found-said.result c.outcome_of.result c.bind_found-said.new.memory storage due c.outcome_of.ensures (c.bind_found-said.ensures.says storage g.state due g.stands g.turn_is g.sound)
+
+pub returns-clause-known : goal.returns-clause-known
+returns-clause-known c = IfOk-weaker c.outcome_of.result _ _ (λ o is. c.bind_found-said.ensures.known c.requires.known) c.outcome_of.ensures
 
 pub returns-clause-steady : goal.returns-clause-steady
 returns-clause-steady c = IfOk-weaker c.outcome_of.result _ _ (λ o is. said_steady c.bind_found-said.new.memory c.bind_found-said.result o is) c.outcome_of.ensures

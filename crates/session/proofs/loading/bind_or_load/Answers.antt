@@ -7,12 +7,15 @@ use Rattle.session.proofs.Told.{if_meets_said}
 use Rattle.session.proofs.loading.bind_or_load.Goals as goal
 
 pub bind_found-said-requires : goal.bind_found-said-requires
-bind_found-said-requires c = record { free = c.requires.free; known = c.requires.known }
+bind_found-said-requires c = c.requires.free
 
 pub returns-in-Some-clause-meets : goal.returns-in-Some-clause-meets
 returns-in-Some-clause-meets c = λ is_next_type storage state due at started f sound.
     if_meets_said is_next_type c.bind_found-said.result c.outcome_of.result c.bind_found-said.new.memory storage due c.outcome_of.ensures
-    (c.bind_found-said.ensures storage state due at (followed_here state c.args.new c.args.id due f (as_in_memory c.args.memory.now storage state c.args.id _ at c.in-Some.ensures.found)) sound)
+    (c.bind_found-said.ensures.says storage state due at (followed_here state c.args.new c.args.id due f (as_in_memory c.args.memory.now storage state c.args.id _ at c.in-Some.ensures.found)) sound)
+
+pub returns-in-Some-clause-known : goal.returns-in-Some-clause-known
+returns-in-Some-clause-known c = IfOk-weaker c.outcome_of.result _ _ (λ o is. c.bind_found-said.ensures.known c.requires.known) c.outcome_of.ensures
 
 pub returns-in-Some-clause-steady : goal.returns-in-Some-clause-steady
 returns-in-Some-clause-steady c = IfOk-weaker c.outcome_of.result _ _ (λ o is. said_steady c.bind_found-said.new.memory c.bind_found-said.result o is) c.outcome_of.ensures
