@@ -1,4 +1,6 @@
 -- What a session keeps for itself, whatever a storage answers.
+use Rattle.std.specs.Prelude.{◌≡◌}
+use Rattle.graph_model.specs.declared.ask.Ask.{Ask}
 use Rattle.lazy_refs.specs.Mappings.{AreMappings}
 use Rattle.lazy_refs.specs.Walks.{Progress}
 use Rattle.storer.specs.Gathered.{AreKnown}
@@ -39,6 +41,11 @@ IsSteadyPhase memory _ = Unit {0}
 abbrev pub IsSteadyOutcome : Memory → Outcome → Type 0
 IsSteadyOutcome memory (outcomes.Ask ask phase) = SuitsPhase ask phase × IsSteadyPhase memory phase
 IsSteadyOutcome memory _ = Unit {0}
+
+-- the outcome is that this is asked
+abbrev pub IsAskOf : Ask → Outcome → Type 0
+IsAskOf asked (outcomes.Ask ask phase) = ask ≡ asked
+IsAskOf asked _ = ⊥
 
 abbrev pub IsSteadyWaiting : Memory → Waiting → Type 0
 IsSteadyWaiting memory (waits.ForReply phase) = IsSteadyPhase memory phase
