@@ -5,3 +5,4 @@ pub mod NameLemmas
 pub mod EdgeLemmas
 pub mod ReleasedLemmas
 pub mod SameBound
+pub mod RefLemmas

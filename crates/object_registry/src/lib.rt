@@ -5,6 +5,7 @@ mod fault;
 mod forgetting;
 mod instance;
 mod loaded;
+mod members;
 mod names;
 mod references;
 mod registry;

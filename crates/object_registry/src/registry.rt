@@ -1,11 +1,11 @@
 //! The names that are bound, and the objects in memory.
 
-ghost use Rattle.std.specs.Prelude.{◌≡◌, ◌-◌, ◌<◌, ◌&&◌, ℕ, [], ◌∷◌, not, codes, length, map, option_copied, IsTrue, IsSomeAnd, IfSome, IfOk, IfErr, OnOk, OnErr, None};
+ghost use Rattle.std.specs.Prelude.{◌≡◌, ◌-◌, ◌<◌, ◌&&◌, ◌++◌, ℕ, [], ◌∷◌, not, codes, length, map, option_copied, IsTrue, IsSomeAnd, IfSome, IfOk, IfErr, OnOk, OnErr, None};
 ghost use Rattle.graph_model.specs.Ids.{has, rises};
-ghost use Rattle.session_model.specs.Answer.{id_in, saved_instances};
+ghost use Rattle.session_model.specs.Answer.{id_in, saved_instances, without_at};
 ghost use Rattle.session_model.specs.Instances.{held_ids, instance_at, kept_instances, put_instance};
 ghost use Rattle.object_registry.specs.Bindings.{SameNames, IsRefused, binding, names_differ, unbound};
-ghost use Rattle.object_registry.specs.Registered.{bound_ids, instance_ids, put_loaded, unsaved, with_member};
+ghost use Rattle.object_registry.specs.Registered.{ChangesRefs, HasRefAt, HasRefs, bound_ids, instance_ids, put_loaded, unsaved, with_member};
 
 use crate::fault::BindFault;
 use crate::forgetting::{Forgotten, keep, kept_ids, released};
@@ -124,6 +124,25 @@ impl Registry {
         ensures names { self.new.names ≡ self.old.names }
     {
         table::set(&mut self.instances, self.alloc, id, member, value);
+    }
+
+    /// Puts an id behind the last of a `refs` member, by the member's index from 0. The instance is changed then. With no memory, nothing changes.
+    pub fn push_ref(&mut self, id: u64, member: u32, target: u64) -> Result<(), NoMemory>
+        requires { HasRefs self.old.instances id member }
+        ensures ok { OnOk result (ChangesRefs (λ ids. ids ++ target ∷ []) id member self.old.instances self.new.instances) }
+        ensures err { OnErr result (self.new.instances ≡ self.old.instances) }
+        ensures names { self.new.names ≡ self.old.names }
+    {
+        table::push_ref(&mut self.instances, self.alloc, id, member, target)
+    }
+
+    /// Takes the id with this index out of a `refs` member, by the member's index from 0. The instance is changed then.
+    pub fn take_ref(&mut self, id: u64, member: u32, at: usize)
+        requires { HasRefAt self.old.instances id member at }
+        ensures taken { ChangesRefs (λ ids. without_at ids at) id member self.old.instances self.new.instances }
+        ensures names { self.new.names ≡ self.old.names }
+    {
+        table::take_ref(&mut self.instances, self.alloc, id, member, at);
     }
 
     /// Takes the instances of these ids as stored just now. An id without an instance counts for nothing.

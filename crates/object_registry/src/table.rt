@@ -1,12 +1,12 @@
 //! The objects in memory by their ids.
 
-ghost use Rattle.std.specs.Prelude.{◌≡◌, ◌<◌, [], ◌∷◌, length, option_copied, IsSomeAnd, IfSome, OnOk, OnErr};
+ghost use Rattle.std.specs.Prelude.{◌≡◌, ◌<◌, ◌++◌, [], ◌∷◌, length, option_copied, IsSomeAnd, IfSome, OnOk, OnErr};
 ghost use Rattle.std.specs.Ordering.{nat_cmp};
 ghost use Rattle.std.specs.BTreeMap.{IsOrdered};
-ghost use Rattle.session_model.specs.Answer.{saved_instances};
+ghost use Rattle.session_model.specs.Answer.{saved_instances, without_at};
 ghost use Rattle.session_model.specs.Instances.{instance_at, put_instance};
 ghost use Rattle.object_registry.specs.Entries.{held_in};
-ghost use Rattle.object_registry.specs.Registered.{put_loaded, with_member};
+ghost use Rattle.object_registry.specs.Registered.{ChangesRefs, HasRefAt, HasRefs, put_loaded, with_member};
 
 use crate::instance::Instance;
 use entity_form::{Object, Value};
@@ -55,6 +55,37 @@ pub fn set(table: &mut Table, alloc: Global, id: u64, member: u32, value: Value)
 {
     match table.get_mut(&id) {
         Some(instance) => instance.set(alloc, member, value),
+        None => unreachable!(),
+    }
+}
+
+/// Puts an id behind the last of an instance's `refs` member. With no memory, nothing changes.
+pub fn push_ref(
+    table: &mut Table,
+    alloc: Global,
+    id: u64,
+    member: u32,
+    target: u64,
+) -> Result<(), NoMemory>
+    requires { HasRefs (held_in table.old.entries) id member }
+    ensures ok { OnOk result (ChangesRefs (λ ids. ids ++ target ∷ []) id member (held_in table.old.entries) (held_in table.new.entries)) }
+    ensures err { OnErr result (table.new.entries ≡ table.old.entries) }
+    ensures ordered { IsOrdered nat_cmp table.new }
+{
+    match table.get_mut(&id) {
+        Some(instance) => instance.push_ref(alloc, member, target),
+        None => unreachable!(),
+    }
+}
+
+/// Takes the id with this index out of an instance's `refs` member.
+pub fn take_ref(table: &mut Table, alloc: Global, id: u64, member: u32, at: usize)
+    requires { HasRefAt (held_in table.old.entries) id member at }
+    ensures taken { ChangesRefs (λ ids. without_at ids at) id member (held_in table.old.entries) (held_in table.new.entries) }
+    ensures ordered { IsOrdered nat_cmp table.new }
+{
+    match table.get_mut(&id) {
+        Some(instance) => instance.take_ref(alloc, member, at),
         None => unreachable!(),
     }
 }

@@ -1,6 +1,8 @@
 //! Examples of a registry.
 
-ghost use Rattle.std.specs.Prelude.{◌∷◌, []};
+ghost use Rattle.std.specs.Prelude.{◌≡◌, ◌∷◌, [], Some, IfSome, IsSomeAnd};
+ghost use Rattle.session_model.specs.Instances.{instance_at};
+ghost use Rattle.object_registry.specs.Registered.{refs_at};
 
 use crate::{BindFault, Edges, Forgotten, Instance, Loaded, Registry, walk};
 use entity_form::{Object, Value, Values};
@@ -28,6 +30,45 @@ fn set_first(registry: &mut Registry, id: u64, value: Value) -> bool {
         registry.set(id, 0, value);
     }
     has_member
+}
+
+/// The list that an instance has as its first member.
+fn first_list(registry: &Registry, id: u64) -> Option<&Ids>
+    ensures { IfSome result (λ ids. IsSomeAnd (instance_at registry.now.instances id) (λ i. refs_at i 0 ≡ Some ids.now)) }
+{
+    let instance = registry.copy(id)?;
+    match instance.object().values.as_slice().first() {
+        Some(Value::Refs(ids)) => Some(ids),
+        _ => None,
+    }
+}
+
+/// Whether there was a list, which now has the id at its end.
+fn push_first(registry: &mut Registry, id: u64, target: u64) -> Result<bool, NoMemory> {
+    let has_list = first_list(registry, id).is_some();
+    if has_list {
+        registry.push_ref(id, 0, target)?;
+    }
+    Ok(has_list)
+}
+
+/// Whether there was a list with an id at this index, which was taken out.
+fn take_first(registry: &mut Registry, id: u64, at: usize) -> bool {
+    let has_id = match first_list(registry, id) {
+        Some(ids) => at < ids.len(),
+        None => false,
+    };
+    if has_id {
+        registry.take_ref(id, 0, at);
+    }
+    has_id
+}
+
+fn is_first_list(registry: &Registry, id: u64, ids: &[u64]) -> bool {
+    match first_list(registry, id) {
+        Some(list) => list.as_slice() == ids,
+        None => false,
+    }
 }
 
 fn is_released(forgotten: &Forgotten, count: u64, ids: &[u64]) -> bool {
@@ -98,6 +139,22 @@ fn an_instance_tells_what_became_of_it(rt: HostRuntime) -> Result<(), Fail> {
     let loaded = Instance::loaded(object(alloc, Value::Int(5))?);
     assert!(rt; !fresh.is_saved() && loaded.is_saved());
     assert!(rt; !fresh.is_changed() && fresh.object().type_id == 16);
+    Ok(())
+}
+
+#[test]
+fn a_list_changes_in_place(rt: HostRuntime) -> Result<(), Fail> {
+    let alloc = rt.alloc();
+    let mut registry = Registry::new(alloc)?;
+    let all = Loaded::new(vec![in alloc;
+        (1024, object(alloc, Value::Refs(Ids::new(Vec::new(alloc))))?),
+    ]?);
+    registry.put_loaded(all)?;
+    for target in [1025, 0, 1026] {
+        assert!(rt; push_first(&mut registry, 1024, target)?);
+    }
+    assert!(rt; take_first(&mut registry, 1024, 1));
+    assert!(rt; is_first_list(&registry, 1024, &[1025, 1026]));
     Ok(())
 }
 

@@ -1,4 +1,5 @@
 pub mod Judged
+pub mod Lines
 pub mod Told
 pub mod Found
 pub mod Standing

@@ -24,6 +24,7 @@ use Rattle.session.specs.Pairings.{MayBePaired, MayNotBePaired, names_root}
 use Rattle.session.specs.Refusals.{IsRefusal}
 use Rattle.session.specs.Stands.{StandsAt}
 use Rattle.session.proofs.Judged.{judged_first, judged_next, judged_none}
+use Rattle.session.proofs.Lines.{ok_no_feed}
 use Rattle.session.proofs.Told.{answers_turn}
 
 -- ---- the pairs that have a name
@@ -103,7 +104,7 @@ pair_refusal memory storage state old new _ at is = absurd is
 pub pair_answers : (memory : Memory) (table : List Pair) (text : List ℕ) (storage : Storage) (state : State) (old new : RefName) → StandsAt memory storage state → MayBePaired memory.types memory.table old new
     → table ≡ memory.table ++ pair_of old new ∷ [] → text ≡ codes "ok" ++ 10 ∷ [] → Answers text (record memory { table = table }) storage (refactor_turn state old new)
 pair_answers memory table text storage state old new at may added told =
-    answers_turn (codes "ok") text (record memory { table = table }) storage (paired state old new) (refactor_turn state old new) told made standing
+    answers_turn (codes "ok") text (record memory { table = table }) storage (paired state old new) (refactor_turn state old new) ok_no_feed told made standing
   where
     made : refactor_turn state old new ≡ ok (paired state old new)
     made = judged_none state (reserved (names_root old new) ∷ behind_reserved state old new) (ok (paired state old new))
