@@ -93,11 +93,6 @@ none_broken_on p (export_steps.Broken id) on = absurd on
 
 -- ---- answers
 
-pub said_steady : (memory : Memory) (said : Result (List ℕ) Stop) (outcome : Outcome) → IsOutcomeOf said outcome → IsSteadyOutcome memory outcome
-said_steady memory (Ok text) outcome is = subst (IsSteadyOutcome memory) (sym is) tt
-said_steady memory (Err (Refused refusal)) outcome is = subst (IsSteadyOutcome memory) (sym is) tt
-said_steady memory (Err NoMemory) outcome is = absurd is
-
 pub said_whole : (said : Result (List ℕ) Stop) (outcome : Outcome) → IsOutcomeOf said outcome → broken_by outcome ≡ None
 said_whole (Ok text) outcome is = ap broken_by is
 said_whole (Err (Refused refusal)) outcome is = ap broken_by is

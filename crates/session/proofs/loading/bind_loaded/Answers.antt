@@ -1,7 +1,8 @@
 use Rattle.std.proofs.Common.{arith}
 use Rattle.std.proofs.lemmas.Result.{IfOk-weaker}
 use Rattle.session.proofs.LoadCounts.{said_steps}
-use Rattle.session.proofs.SteadySteps.{said_steady, said_whole}
+use Rattle.session.proofs.Shortness.{if_said_steady}
+use Rattle.session.proofs.SteadySteps.{said_whole}
 use Rattle.session.proofs.Told.{if_meets_said}
 use Rattle.session.proofs.loading.bind_loaded.Goals as goal
 
@@ -16,7 +17,7 @@ pub returns-clause-known : goal.returns-clause-known
 returns-clause-known c = IfOk-weaker c.outcome_of.result _ _ (λ o is. c.bind_found-said.ensures.known c.requires.known) c.outcome_of.ensures
 
 pub returns-clause-steady : goal.returns-clause-steady
-returns-clause-steady c = IfOk-weaker c.outcome_of.result _ _ (λ o is. said_steady c.bind_found-said.new.memory c.bind_found-said.result o is) c.outcome_of.ensures
+returns-clause-steady c = if_said_steady c.bind_found-said.result c.outcome_of.result c.bind_found-said.new.memory c.outcome_of.ensures
 
 pub returns-clause-whole : goal.returns-clause-whole
 returns-clause-whole c = IfOk-weaker c.outcome_of.result _ _ (λ o is. said_whole c.bind_found-said.result o is) c.outcome_of.ensures

@@ -2,7 +2,8 @@ use Rattle.std.proofs.Common.{arith}
 use Rattle.std.proofs.lemmas.Result.{IfOk-weaker}
 use Rattle.session.proofs.FollowLines.{as_in_memory, followed_here, followed_loads}
 use Rattle.session.proofs.LoadCounts.{said_steps}
-use Rattle.session.proofs.SteadySteps.{said_steady, said_whole}
+use Rattle.session.proofs.Shortness.{if_said_steady}
+use Rattle.session.proofs.SteadySteps.{said_whole}
 use Rattle.session.proofs.Told.{if_meets_said}
 use Rattle.session.proofs.loading.bind_or_load.Goals as goal
 
@@ -18,7 +19,7 @@ pub returns-in-Some-clause-known : goal.returns-in-Some-clause-known
 returns-in-Some-clause-known c = IfOk-weaker c.outcome_of.result _ _ (λ o is. c.bind_found-said.ensures.known c.requires.known) c.outcome_of.ensures
 
 pub returns-in-Some-clause-steady : goal.returns-in-Some-clause-steady
-returns-in-Some-clause-steady c = IfOk-weaker c.outcome_of.result _ _ (λ o is. said_steady c.bind_found-said.new.memory c.bind_found-said.result o is) c.outcome_of.ensures
+returns-in-Some-clause-steady c = if_said_steady c.bind_found-said.result c.outcome_of.result c.bind_found-said.new.memory c.outcome_of.ensures
 
 pub returns-in-Some-clause-whole : goal.returns-in-Some-clause-whole
 returns-in-Some-clause-whole c = IfOk-weaker c.outcome_of.result _ _ (λ o is. said_whole c.bind_found-said.result o is) c.outcome_of.ensures

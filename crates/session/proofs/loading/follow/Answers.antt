@@ -3,7 +3,8 @@ use Rattle.std.proofs.lemmas.Result.{IfOk-weaker}
 use Rattle.session_model.specs.Answer.{follow_turn}
 use Rattle.session_model.proofs.Following.{follow_line_sound}
 use Rattle.session.proofs.LoadCounts.{said_steps}
-use Rattle.session.proofs.SteadySteps.{said_steady, said_whole}
+use Rattle.session.proofs.Shortness.{if_said_steady}
+use Rattle.session.proofs.SteadySteps.{said_whole}
 use Rattle.session.proofs.Told.{if_meets_said, says_refusal}
 use Rattle.session.proofs.loading.follow.Goals as goal
 
@@ -27,7 +28,7 @@ pub returns-in-Err-clause-known : goal.returns-in-Err-clause-known
 returns-in-Err-clause-known c = IfOk-weaker c.outcome_of.result _ _ (λ o is. c.requires) c.outcome_of.ensures
 
 pub returns-in-Err-clause-steady : goal.returns-in-Err-clause-steady
-returns-in-Err-clause-steady c = IfOk-weaker c.outcome_of.result _ _ (λ o is. said_steady c.args.memory.now (Err c.in-Err.stop) o is) c.outcome_of.ensures
+returns-in-Err-clause-steady c = if_said_steady (Err c.in-Err.stop) c.outcome_of.result c.args.memory.now c.outcome_of.ensures
 
 pub returns-in-Err-clause-whole : goal.returns-in-Err-clause-whole
 returns-in-Err-clause-whole c = IfOk-weaker c.outcome_of.result _ _ (λ o is. said_whole (Err c.in-Err.stop) o is) c.outcome_of.ensures
