@@ -1,14 +1,15 @@
 use Rattle.std.proofs.Common.{◌+◌, ◌*◌, length, refl, subst, arith}
+use Rattle.std.proofs.lemmas.Result.{IfOk-weaker}
 use Rattle.session.specs.Loads.{IsRead}
 use Rattle.session.proofs.Shortness.{few_steps, if_at_most_few, if_short_few}
 use Rattle.session.proofs.SteadySteps.{if_short_whole, short_whole}
 use Rattle.session.proofs.commands.carry_out.Goals as goal
 
-pub declare_type-requires : goal.declare_type-requires
-declare_type-requires c = (subst IsRead c.in-DeclareType.is c.requires.read).proper
+pub declare_type-requires-clause-grammar : goal.declare_type-requires-clause-grammar
+declare_type-requires-clause-grammar c = (subst IsRead c.in-DeclareType.is c.requires.read).proper
 
-pub refactor-requires : goal.refactor-requires
-refactor-requires c = (subst IsRead c.in-Refactor.is c.requires.read).one_form
+pub refactor-requires-clause-one_form : goal.refactor-requires-clause-one_form
+refactor-requires-clause-one_form c = (subst IsRead c.in-Refactor.is c.requires.read).one_form
 
 pub returns-in-DeclareType : goal.returns-in-DeclareType
 returns-in-DeclareType c = rw c.in-DeclareType.is (record {
@@ -102,7 +103,7 @@ returns-in-StoreAll c = rw c.in-StoreAll.is (record {
 
 pub returns-in-Show : goal.returns-in-Show
 returns-in-Show c = rw c.in-Show.is (record {
-  known = c.requires.known;
+  known = IfOk-weaker c.show.result _ _ (λ outcome is. c.requires.known) c.show.ensures.short;
   steady = c.show.ensures.steady;
   whole = if_short_whole c.show.result c.show.ensures.short;
   tidies = λ is. absurd (cc);
@@ -172,7 +173,7 @@ returns-in-Collect c = rw c.in-Collect.is (record {
 
 pub returns-in-Tidy : goal.returns-in-Tidy
 returns-in-Tidy c = rw c.in-Tidy.is (record {
-  known = c.requires.known;
+  known = IfOk-weaker c.tidy.result _ _ (λ outcome is. c.requires.known) c.tidy.ensures.short;
   steady = c.tidy.ensures.steady c.args.memory.now;
   whole = if_short_whole c.tidy.result c.tidy.ensures.short;
   tidies = λ is. c.tidy.ensures.asks;
@@ -182,7 +183,7 @@ returns-in-Tidy c = rw c.in-Tidy.is (record {
 
 pub returns-in-Export : goal.returns-in-Export
 returns-in-Export c = rw c.in-Export.is (record {
-  known = c.requires.known;
+  known = IfOk-weaker c.export.result _ _ (λ outcome is. c.requires.known) c.export.ensures.steady;
   steady = c.export.ensures.steady;
   whole = c.export.ensures.whole;
   tidies = λ is. absurd (cc);

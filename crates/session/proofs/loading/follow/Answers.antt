@@ -9,7 +9,7 @@ use Rattle.session.proofs.Told.{if_meets_said, says_refusal}
 use Rattle.session.proofs.loading.follow.Goals as goal
 
 pub bind_or_load-requires : goal.bind_or_load-requires
-bind_or_load-requires c = record { known = c.requires; free = c.in-Ok.ensures.free }
+bind_or_load-requires c = record { known = c.requires.known; free = c.in-Ok.ensures.free }
 
 pub returns-in-Ok-clause-meets : goal.returns-in-Ok-clause-meets
 returns-in-Ok-clause-meets c = λ is_next_type storage state at started.
@@ -25,7 +25,7 @@ returns-in-Err-clause-meets c = λ is_next_type storage state at started.
     (says_refusal c.in-Err.stop c.args.memory.now storage state (follow_turn state c.args.name.now c.args.member.now c.args.new) at (c.in-Err.ensures.judged storage state at started))
 
 pub returns-in-Err-clause-known : goal.returns-in-Err-clause-known
-returns-in-Err-clause-known c = IfOk-weaker c.outcome_of.result _ _ (λ o is. c.requires) c.outcome_of.ensures
+returns-in-Err-clause-known c = IfOk-weaker c.outcome_of.result _ _ (λ o is. c.requires.known) c.outcome_of.ensures
 
 pub returns-in-Err-clause-steady : goal.returns-in-Err-clause-steady
 returns-in-Err-clause-steady c = if_said_steady (Err c.in-Err.stop) c.outcome_of.result c.args.memory.now c.outcome_of.ensures

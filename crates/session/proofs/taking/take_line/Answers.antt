@@ -13,7 +13,7 @@ take_command-requires-clause-read c = is_read c.as_slice.result.now c.in-Ok.comm
 pub returns-in-Ok-clause-tidies : goal.returns-in-Ok-clause-tidies
 returns-in-Ok-clause-tidies c = λ is begun.
     let found : command_of c.args.text.now ≡ Some (meant c.in-Ok.command) = ap command_of (sym c.as_slice.ensures) ∙ c.in-Ok.ensures.found in
-    c.take_command.ensures.tidies cc begun
+    c.take_command.ensures.tidies (cc) begun
 
 pub returns-in-Ok-clause-meets : goal.returns-in-Ok-clause-meets
 returns-in-Ok-clause-meets c = λ is_next_type storage due admits begins.
