@@ -159,7 +159,12 @@ fn an_object_is_forgotten(rt: HostRuntime) -> Result<(), Fail> {
 #[test]
 fn a_storage_is_asked(rt: HostRuntime) -> Result<(), Fail> {
     assert!(rt; matches!(&collect(), Outcome::Ask(Ask::Collect, Phase::Collecting)));
-    assert!(rt; matches!(&tidy(rt.alloc())?, Outcome::Ask(Ask::Tidy, Phase::Saying(_))));
+    assert!(rt;
+        matches!(
+            &tidy(rt.alloc())?,
+            Outcome::Ask(Ask::Tidy, Phase::Saying(_))
+        )
+    );
     assert!(rt; Refusal::Full.code() == "full");
     Ok(())
 }
