@@ -4,7 +4,7 @@ use Rattle.graph_model.specs.declared.entity.Entity.{Entity}
 use Rattle.type_desc.specs.declared.desc.TypeDesc.{TypeDesc}
 use Rattle.refactor_table.specs.declared.name.Pair.{Pair}
 use Rattle.session_model.specs.Instances.{Instances}
-use Rattle.lazy_refs.specs.Advances.{IsDoneNext}
+use Rattle.lazy_refs.specs.Advances.{IsAskedNext, IsDoneNext}
 use Rattle.lazy_refs.specs.Walks.{Progress, TurnsWith}
 use Rattle.lazy_refs.specs.declared.step.LoadStep.{LoadStep}
 use Rattle.lazy_refs.specs.declared.step.LoadStep.TheVariants as steps
@@ -16,3 +16,11 @@ done_next types pairs instances entity old new (steps.Ready all) t = tt
 done_next types pairs instances entity old new (steps.NoType id) t = tt
 done_next types pairs instances entity old new (steps.WrongKind id) t = tt
 done_next types pairs instances entity old new (steps.Broken id) t = tt
+
+pub asked_next : (types : List TypeDesc) (pairs : List Pair) (instances : Instances) (entity : Entity) (old new : Progress) (step : LoadStep)
+    → TurnsWith types pairs instances entity old new step → IsAskedNext new step
+asked_next types pairs instances entity old new (steps.Want id) t = t.2.turns.goes_on.asked
+asked_next types pairs instances entity old new (steps.Ready all) t = tt
+asked_next types pairs instances entity old new (steps.NoType id) t = tt
+asked_next types pairs instances entity old new (steps.WrongKind id) t = tt
+asked_next types pairs instances entity old new (steps.Broken id) t = tt

@@ -12,7 +12,7 @@ use Rattle.session_model.proofs.Allowing.{kept_count}
 use Rattle.session_model.proofs.Asking.{ask_stays_allowed}
 use Rattle.session_model.proofs.Forgetting.{forget_line_sound}
 use Rattle.session_model.proofs.Holding.{held_kept}
-use Rattle.session_model.specs.Sound.{are_distinct}
+use Rattle.object_registry.specs.Bindings.{names_differ}
 use Rattle.object_registry.specs.Registered.{Registered, bound_ids}
 use Rattle.object_registry.proofs.SameBound.{kept_by_same_names}
 use Rattle.session.specs.declared.memory.Memory.{Memory}
@@ -20,6 +20,7 @@ use Rattle.session.specs.declared.outcome.Phase.TheVariants as phases
 use Rattle.session.specs.Due.{Awaits, Replied, kept_text}
 use Rattle.session.specs.Stands.{Stands, StandsAt}
 use Rattle.session.proofs.Standing.{stands_objects}
+use Rattle.session.proofs.Lines.{numbered_no_feed, tidied_no_feed}
 use Rattle.session.proofs.Told.{answers_turn}
 
 -- the storage is another, of which only the held ids are
@@ -50,7 +51,8 @@ pub tidy_awaits : (is_next_type : List (List ℕ) → List ℕ → Bool) (text :
 tidy_awaits is_next_type text memory storage state t at = record {
   may = tt;
   due = tt;
-  then_ = λ reply new served. answers_turn (codes "tidied") text memory new state (answered state (codes "tidied")) t refl (stands_same memory storage new state at served.same);
+  suits = tt;
+  then_ = λ reply new served. answers_turn (codes "tidied") text memory new state (answered state (codes "tidied")) tidied_no_feed t refl (stands_same memory storage new state at served.same);
 }
 
 -- what a storage counts is what the model counts
@@ -73,11 +75,11 @@ counted memory storage state kept at order exact = kept_count state.graph (held_
 
 pub collect_awaits : (is_next_type : List (List ℕ) → List ℕ → Bool) (memory : Memory) (storage : Storage) (state : State) → StandsAt memory storage state
     → Awaits is_next_type asks.Collect phases.Collecting memory storage (collect_turn state)
-collect_awaits is_next_type memory storage state at = record { may = tt; due = tt; then_ = replied }
+collect_awaits is_next_type memory storage state at = record { may = tt; due = tt; suits = tt; then_ = replied }
   where
     replied : (reply : Reply) (new : Storage) → Served storage asks.Collect reply new → Replied phases.Collecting reply memory new (collect_turn state)
     replied reply new served = subst (λ (r : Reply). Replied phases.Collecting r memory new (collect_turn state)) (sym served.reply_is)
-        (answers_turn (codes "kept " ++ decimal (length (reached_records state.graph (1 ∷ held_ids state.instances)))) (kept_text (length served.kept)) memory new state (collect_turn state)
+        (answers_turn (codes "kept " ++ decimal (length (reached_records state.graph (1 ∷ held_ids state.instances)))) (kept_text (length served.kept)) memory new state (collect_turn state) (numbered_no_feed (codes "kept ") (length (reached_records state.graph (1 ∷ held_ids state.instances))) refl)
         (ap kept_text (sym (counted memory storage state served.kept at served.order served.exact))) refl (stands_same memory storage new state at served.same))
 
 -- ---- `forget`
@@ -89,14 +91,15 @@ given_up false b c e = sym e
 
 pub forget_awaits : (is_next_type : List (List ℕ) → List ℕ → Bool) (memory : Memory) (registry : Registered) (count : ℕ) (released text : List ℕ) (storage : Storage) (state : State)
     → StandsAt memory storage state → state.started ≡ true
-    → registry.instances ≡ kept_instances memory.registry.instances (bound_ids memory.registry.names) → registry.names ≡ memory.registry.names → are_distinct memory.registry.names ≡ true
+    → registry.instances ≡ kept_instances memory.registry.instances (bound_ids memory.registry.names) → registry.names ≡ memory.registry.names → names_differ memory.registry.names ≡ true
     → ((x : ℕ) → has x released ≡ (has x (held_ids memory.registry.instances) && not (has x (held_ids registry.instances))))
     → text ≡ (codes "forgot " ++ decimal count) ++ 10 ∷ [] → count ≡ length memory.registry.instances - length registry.instances
     → Awaits is_next_type (asks.Release released) (phases.Saying text) (record memory { registry = registry }) storage (forget_turn state)
 forget_awaits is_next_type memory registry count released text storage state at started kept names once gone told counted = record {
   may = tt;
   due = tt;
-  then_ = λ reply new served. answers_turn (codes "forgot " ++ decimal (length state.instances - length left)) text (record memory { registry = registry }) new (record state { instances = left }) (forget_turn state)
+  suits = tt;
+  then_ = λ reply new served. answers_turn (codes "forgot " ++ decimal (length state.instances - length left)) text (record memory { registry = registry }) new (record state { instances = left }) (forget_turn state) (numbered_no_feed (codes "forgot ") (length state.instances - length left) refl)
       (told ∙ ap (λ (n : ℕ). (codes "forgot " ++ decimal n) ++ 10 ∷ []) (counted ∙ (ap (λ (hs : Instances). length hs - length registry.instances) at.stands.instances ∙ ap (λ (hs : Instances). length state.instances - length hs) left_is)))
       refl (stands_served (record memory { registry = registry }) storage new (record state { instances = left }) standing served.others (λ x. served.held x ∙ held x));
 }

@@ -37,7 +37,7 @@ pub comes_later : (memory : Memory) (storage : Storage) (state : State) (command
 comes_later memory storage state command at e =
     ap (λ (b : Bool). cond b (started_turn most_bytes state command (first_instances state)) (command_turn most_bytes state command)) (same_begin memory storage state command at ∙ e)
 
-second_fails : (a b : Bool) → (a && not b) ≡ true → b ≡ false
+pub second_fails : (a b : Bool) → (a && not b) ≡ true → b ≡ false
 second_fails true false e = cc
 second_fails true true e = absurd cc
 second_fails false b e = absurd cc

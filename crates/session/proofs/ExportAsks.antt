@@ -64,6 +64,7 @@ pub looks_awaits : (is_next_type : List (List ℕ) → List ℕ → Bool) (text 
 looks_awaits is_next_type text state memory storage turn p id r step = record {
   may = subst (λ (g : Graph). IsKept g storage.held id) (sym r.stands.stands.graph) (exported_is_kept state.graph storage.held id step.1);
   due = tt;
+  suits = step.0;
   then_ = replied;
 }
   where

@@ -10,7 +10,6 @@ use Rattle.graph_model.specs.declared.entity.Entity.{Entity}
 use Rattle.graph_model.specs.declared.entity.Record.{Record}
 use Rattle.graph_model.proofs.Graphs.{entity_of_filter, has_ids}
 use Rattle.type_desc.specs.declared.desc.TypeDesc.{TypeDesc}
-use Rattle.type_dictionary.specs.Latest.{desc_of}
 use Rattle.entity_form.specs.Form.{Holds}
 use Rattle.entity_form.specs.Reading.{values_at}
 use Rattle.entity_form.specs.Values.{kinds_of}
@@ -18,19 +17,23 @@ use Rattle.entity_form.specs.declared.value.Object.{Object}
 use Rattle.entity_form.specs.declared.value.Value.{Value}
 use Rattle.entity_form.proofs.Forms.{holds_again}
 use Rattle.graph_export.specs.Line.{line}
+use Rattle.graph_export.proofs.Feedless.{line_no_feed}
+use Rattle.lazy_refs.specs.Forms.{IsObjectOf}
+use Rattle.session_model.specs.Types.{desc_of}
 use Rattle.session_model.specs.Instances.{reached}
 use Rattle.session_model.specs.Loading.{values_in}
 use Rattle.session_model.specs.Answer.{State, exported, no_desc}
 use Rattle.session_model.specs.Sound.{IsRightGraph}
 use Rattle.session_model.proofs.SameIds.{above_first, rises-tail}
-use Rattle.session.specs.Exports.{IsLine, IsLineOf, IsTelling, IsWalking, line_at, no_entity, reached_from_root, starts}
+use Rattle.session.specs.Lines.{IsLine}
+use Rattle.session.specs.Exports.{IsLineOf, IsTelling, IsWalking, line_at, no_entity, reached_from_root, starts}
 use Rattle.session.specs.declared.exporting.Stage.TheVariants as stages
 use Rattle.session.proofs.ExportWalks.{all_reached, records_rise}
 
--- a decoded object's line is the line of its entity
-pub line_is : (types : List TypeDesc) (id : ℕ) (entity : Entity) (desc : TypeDesc) (object : Object) (bytes : List ℕ) → desc_of types entity.type_id ≡ Some desc → object.type_id ≡ entity.type_id
-    → Holds (kinds_of desc) entity.refs entity.plain object.values → bytes ≡ line id object desc ++ 10 ∷ [] → IsLineOf types id entity (Some bytes)
-line_is types id entity desc object bytes known of_type holds told = λ state same.
+-- an object's line is the line of an entity that holds it
+told_line : (types : List TypeDesc) (id : ℕ) (entity : Entity) (desc : TypeDesc) (object : Object) (bytes : List ℕ) (state : State) → desc_of types entity.type_id ≡ Some desc → object.type_id ≡ entity.type_id
+    → Holds (kinds_of desc) entity.refs entity.plain object.values → bytes ≡ line id object desc ++ 10 ∷ [] → state.types ≡ types → bytes ≡ exported state (record { id = id; entity = entity })
+told_line types id entity desc object bytes state known of_type holds told same =
     told ∙ (ap (λ (t : ℕ). line id (as_object t object.values) desc ++ 10 ∷ []) of_type
     ∙ (ap (λ (vs : List Value). line id (as_object entity.type_id vs) desc ++ 10 ∷ []) (sym (ap values_in (holds_again (kinds_of desc) 0 entity.refs entity.plain object.values holds)))
     ∙ ap (λ (d : TypeDesc). line id (as_object entity.type_id (values_in (values_at (kinds_of d) 0 entity.refs entity.plain))) d ++ 10 ∷ [])
@@ -39,9 +42,15 @@ line_is types id entity desc object bytes known of_type holds told = λ state sa
     as_object : ℕ → List Value → Object
     as_object t vs = record { type_id = t; values = vs }
 
--- it ends with a line feed
-pub is_line : (state : State) (types : List TypeDesc) (id : ℕ) (entity : Entity) (bytes : List ℕ) → state.types ≡ types → IsLineOf types id entity (Some bytes) → IsLine bytes
-is_line state types id entity bytes same line_of = (_, line_of state same)
+pub line_is : (types : List TypeDesc) (id : ℕ) (object : Object) (desc : TypeDesc) (bytes : List ℕ) → desc_of types object.type_id ≡ Some desc → bytes ≡ line id object desc ++ 10 ∷ [] → IsLineOf types id object bytes
+line_is types id object desc bytes known told = λ state entity same is.
+    let found : desc_of types entity.type_id ≡ Some desc = ap (desc_of types) (sym is.of_type) ∙ known in
+    let one : is.desc ≡ desc = (let e : Some is.desc ≡ Some desc = sym is.known ∙ found in cc) in
+    told_line types id entity desc object bytes state found is.of_type (subst (λ (d : TypeDesc). Holds (kinds_of d) entity.refs entity.plain object.values) one is.holds) told same
+
+-- it is one line
+pub is_line : (state : State) (types : List TypeDesc) (id : ℕ) (entity : Entity) (object : Object) (bytes : List ℕ) → state.types ≡ types → IsObjectOf types entity object → IsLineOf types id object bytes → IsLine bytes
+is_line state types id entity object bytes same is line_of = record { text = _; bytes_is = line_of state entity same is; no_feed = line_no_feed _ _ _ }
 
 -- the lines by the ids of records that stand in the graph
 lines_are : (state : State) (rs : Graph) → rises (ids rs) ≡ true → ((x : ℕ) (e : Entity) → entity_of rs x ≡ Some e → entity_of state.graph x ≡ Some e)

@@ -9,12 +9,16 @@ use Rattle.graph_model.specs.Graph.{Graph, edges, entity_of, lists}
 use Rattle.graph_model.specs.declared.entity.Entity.{Entity}
 use Rattle.graph_model.proofs.IdSets.{has_append}
 use Rattle.type_desc.specs.declared.desc.TypeDesc.{TypeDesc}
-use Rattle.type_dictionary.specs.Latest.{desc_of}
+use Rattle.entity_form.specs.declared.value.Object.{Object}
+use Rattle.graph_export.proofs.Feedless.{decimal_no_feed, feedless_is, no_feed-append}
+use Rattle.lazy_refs.specs.Forms.{HasForm, IsObjectOf}
 use Rattle.session_model.specs.Answer.{State, export_turn, exported}
-use Rattle.session.specs.Exports.{Exported, IsExporting, IsFresh, IsInStage, IsLine, IsLineOf, IsTelling, IsWalking, due, line_at, looked, no_entity, reached_from_root, starts}
+use Rattle.session.specs.Lines.{IsLine}
+use Rattle.session.specs.Exports.{Exported, IsExporting, IsFresh, IsInStage, IsLineOf, IsTelling, IsWalking, due, line_at, looked, no_entity, reached_from_root, starts}
 use Rattle.session.specs.declared.exporting.Stage.{Stage}
 use Rattle.session.specs.declared.exporting.Stage.TheVariants as stages
 use Rattle.session.proofs.ExportWalks.{open_is_exported, walks_now}
+use Rattle.session.proofs.KnownLoaded.{right_form}
 
 none_more : (xs : List ℕ) → xs ≡ xs ++ []
 none_more [] = refl
@@ -75,9 +79,9 @@ looks state text p new id entity is asked e at becomes = subst (λ (q : Exported
         (walks_now state.graph (starts state.graph) p.left p.waiting id entity fresh at (subst (λ (o : Option ℕ). IsWalking state.graph (starts state.graph) p.left (p.waiting ++ due o)) asked t.1))
 
 -- the due id's line was told
-pub tells : (state : State) (text bytes : List ℕ) (types : List TypeDesc) (p : Exported) (id : ℕ) (entity : Entity) → state.types ≡ types → p.stage ≡ stages.Telling → p.asked ≡ Some id → IsExporting state text p
-    → entity_of state.graph id ≡ Some entity → IsLineOf types id entity (Some bytes) → IsExporting state (text ++ bytes) (record p { asked = None })
-tells state text bytes types p id entity same is asked e at line = record {
+pub tells : (state : State) (text bytes : List ℕ) (types : List TypeDesc) (p : Exported) (id : ℕ) (entity : Entity) (object : Object) → state.types ≡ types → p.stage ≡ stages.Telling → p.asked ≡ Some id → IsExporting state text p
+    → entity_of state.graph id ≡ Some entity → IsObjectOf types entity object → IsLineOf types id object bytes → IsExporting state (text ++ bytes) (record p { asked = None })
+tells state text bytes types p id entity object same is asked e at holds line = record {
   graph = e.graph;
   at = subst (λ (s : Stage). IsInStage s state (text ++ bytes) (record p { asked = None })) (sym is) telling;
 }
@@ -89,7 +93,7 @@ tells state text bytes types p id entity same is asked e at line = record {
     due_first = subst (λ (o : Option ℕ). text ++ flat_map (line_at state) (due o ++ p.left) ≡ flat_map (exported state) (reached_from_root state)) asked t.told
 
     bytes_are : bytes ≡ line_at state id
-    bytes_are = line state same ∙ sym (ap (λ (o : Option Entity). exported state (record { id = id; entity = unwrap_or o no_entity })) at)
+    bytes_are = line state entity same holds ∙ sym (ap (λ (o : Option Entity). exported state (record { id = id; entity = unwrap_or o no_entity })) at)
 
     telling : IsTelling state (text ++ bytes) (record p { asked = None })
     telling = record {
@@ -102,7 +106,7 @@ tells state text bytes types p id entity same is asked e at line = record {
 pub ends : (state : State) (text bytes : List ℕ) (p : Exported) → p.stage ≡ stages.Telling → p.asked ≡ None → p.left ≡ [] → IsExporting state text p → bytes ≡ (codes "end " ++ decimal p.count) ++ 10 ∷ []
     → IsLine bytes × (text ++ bytes ≡ (export_turn state).text)
 ends state text bytes p is none empty e last = (
-  (codes "end " ++ decimal p.count, last),
+  record { text = codes "end " ++ decimal p.count; bytes_is = last; no_feed = no_feed-append (codes "end ") (decimal p.count) (feedless_is (codes "end ") refl) (decimal_no_feed p.count) },
   ap (λ (b : List ℕ). text ++ b) (last ∙ ap (λ (n : ℕ). (codes "end " ++ decimal n) ++ 10 ∷ []) t.count)
       ∙ ap (λ (l : List ℕ). l ++ ((codes "end " ++ decimal (length (reached_from_root state))) ++ 10 ∷ [])) told,
 )
@@ -119,6 +123,6 @@ pub fresh_while_walking : (state : State) (text : List ℕ) (p : Exported) (id :
 fresh_while_walking state text p id is asked e = subst (λ (o : Option ℕ). IsFresh o p.left) asked (in_stage stages.Walking state text p is e).2
 
 -- no entity of a right graph is broken
-pub none_broken : (state : State) (text : List ℕ) (types : List TypeDesc) (p : Exported) (id : ℕ) (entity : Entity) → state.types ≡ types → IsExporting state text p → entity_of state.graph id ≡ Some entity → IsLineOf types id entity None → ⊥
-none_broken state text types p id entity same e at none = let form = e.graph.forms id entity at in
-    none form.desc form.values (subst (λ (ts : List TypeDesc). desc_of ts entity.type_id ≡ Some form.desc) same form.known) form.holds
+pub none_broken : (state : State) (text : List ℕ) (types : List TypeDesc) (p : Exported) (id : ℕ) (entity : Entity) → state.types ≡ types → IsExporting state text p → entity_of state.graph id ≡ Some entity → ¬ (HasForm types entity)
+    → ⊥
+none_broken state text types p id entity same e at none = none (subst (λ (ts : List TypeDesc). HasForm ts entity) same (right_form state.types id entity (e.graph.forms id entity at)))

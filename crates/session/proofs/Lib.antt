@@ -1,4 +1,5 @@
 pub mod Judged
+pub mod Lines
 pub mod Told
 pub mod Found
 pub mod Standing
@@ -31,3 +32,5 @@ pub mod LoadCounts
 pub mod FollowLines
 pub mod LoadTurns
 pub mod NewRoot
+pub mod KnownLoaded
+pub mod SteadySteps

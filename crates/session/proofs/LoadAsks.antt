@@ -45,7 +45,7 @@ same_by_model memory storage state at = record { others = record { graph = at.st
 
 pub look_awaits : (is_next_type : List (List ℕ) → List ℕ → Bool) (purpose : Purpose) (loading : Progress) (id : ℕ) (memory : Memory) (storage : Storage) (turn : Turn)
     → TakesStep purpose loading (steps.Want id) memory storage turn → Awaits is_next_type (asks.Look id) (phases.Looking loading purpose) memory storage turn
-look_awaits is_next_type purpose loading id memory storage turn t = record { may = may; due = tt; then_ = replied }
+look_awaits is_next_type purpose loading id memory storage turn t = record { may = may; due = tt; suits = t.step_is.0; then_ = replied }
   where
     from : IsLoadedFor purpose memory storage turn
     from = t.loaded_for
@@ -99,7 +99,7 @@ pub hold_awaits : (is_next_type : List (List ℕ) → List ℕ → Bool) (purpos
     → Awaits is_next_type (asks.Hold ids) (phases.Holding purpose) (record memory { registry = registry; started = true }) storage turn
 hold_awaits is_next_type purpose all ids memory registry storage turn t ids_are names is =
     subst (λ (xs : List ℕ). Awaits is_next_type (asks.Hold xs) (phases.Holding purpose) (record memory { registry = registry; started = true }) storage turn) (sym ids_are)
-    (record { may = may; due = tt; then_ = replied })
+    (record { may = may; due = tt; suits = tt; then_ = replied })
   where
     from : IsLoadedFor purpose memory storage turn
     from = t.loaded_for

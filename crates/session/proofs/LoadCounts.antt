@@ -10,7 +10,6 @@ use Rattle.graph_model.specs.declared.entity.Record.{Record}
 use Rattle.type_desc.specs.declared.desc.TypeDesc.{TypeDesc}
 use Rattle.session_model.specs.Sound as model
 use Rattle.lazy_refs.specs.Advances.{IsDoneNext}
-use Rattle.lazy_refs.specs.Forms.{HasForm}
 use Rattle.lazy_refs.specs.Steps.{IsBrokenWhere}
 use Rattle.lazy_refs.specs.Walks.{Progress}
 use Rattle.lazy_refs.specs.declared.step.LoadStep.{LoadStep}
@@ -24,6 +23,7 @@ use Rattle.session.specs.declared.refusal.Stop.TheVariants.{Refused, NoMemory}
 use Rattle.session.specs.LoadSteps.{IsFailure, IsLast, IsWhole, last_steps, step_steps}
 use Rattle.session.specs.Refusals.{IsOutcomeOf}
 use Rattle.session.specs.Steps.{outcome_steps, phase_steps, purpose_steps, unseen}
+use Rattle.session.proofs.KnownLoaded.{right_form}
 use Rattle.session.proofs.Unseen.{unseen_less}
 
 -- ---- steps
@@ -95,10 +95,6 @@ whole_first types p (steps.Ready all) is = tt
 whole_first types p (steps.NoType id) is = tt
 whole_first types p (steps.WrongKind id) is = tt
 whole_first types p (steps.Broken id) is = absurd is
-
--- an entity of a right graph has its type's form
-right_form : (types : List TypeDesc) (x : ℕ) (entity : Entity) → model.HasForm types x entity → HasForm types entity
-right_form types x entity form = (record { type_id = entity.type_id; values = form.values }, record { of_type = refl; desc = form.desc; known = form.known; holds = form.holds })
 
 pub whole_next : (types : List TypeDesc) (x : ℕ) (p : Progress) (entity : Entity) (step : LoadStep) → model.HasForm types x entity → IsBrokenWhere types p (Some entity) step → IsWhole step
 whole_next types x p entity (steps.Want id) form is = tt

@@ -16,9 +16,11 @@ use Rattle.object_registry.specs.Bindings.{SameNames, binding, unbound}
 use Rattle.object_registry.specs.Registered.{Registered, unsaved}
 use Rattle.object_registry.proofs.NameLemmas.{id_in-unbound}
 use Rattle.session.specs.declared.memory.Memory.{Memory}
+use Rattle.session.specs.declared.refusal.Refusal.TheVariants.{NoName, Reserved}
 use Rattle.session.specs.Due.{Answers}
 use Rattle.session.specs.Stands.{StandsAt}
 use Rattle.session.proofs.Judged.{judged_first, judged_next}
+use Rattle.session.proofs.Lines.{numbered_no_feed, ok_no_feed, refused_no_feed}
 use Rattle.session.proofs.Standing.{stands_with}
 use Rattle.session.proofs.Told.{answers_turn}
 
@@ -34,7 +36,7 @@ pub bound_answers : (memory : Memory) (registry : Registered) (text name : List 
     → SameNames registry.names (binding name id ∷ memory.registry.names) → registry.instances ≡ memory.registry.instances → text ≡ codes "ok" ++ 10 ∷ []
     → Answers text (record memory { registry = registry }) storage turn
 bound_answers memory registry text name id storage state turn at is sound names instances told =
-    answers_turn (codes "ok") text (record memory { registry = registry }) storage (bound state name id) turn told is
+    answers_turn (codes "ok") text (record memory { registry = registry }) storage (bound state name id) turn ok_no_feed told is
     (stands_with memory registry memory.next_id storage state (binding name id ∷ state.names) state.instances state.next_id at (subst (λ (t : Turn). IsSound t.state) is sound)
     (more_names registry.names memory.registry.names state.names name id names at.stands.names) (instances ∙ at.stands.instances) at.stands.next_id (omega arith) (λ y. refl))
 
@@ -59,7 +61,7 @@ pub made_answers : (memory : Memory) (registry : Registered) (text name : List �
     → text ≡ (codes "new " ++ decimal memory.next_id) ++ 10 ∷ []
     → Answers text (record memory { registry = registry; next_id = memory.next_id + 1 }) storage turn
 made_answers memory registry text name object storage state turn at is sound names instances told =
-    answers_turn (codes "new " ++ decimal state.next_id) text (record memory { registry = registry; next_id = memory.next_id + 1 }) storage made turn (told ∙ ap (λ (n : ℕ). (codes "new " ++ decimal n) ++ 10 ∷ []) same) is
+    answers_turn (codes "new " ++ decimal state.next_id) text (record memory { registry = registry; next_id = memory.next_id + 1 }) storage made turn (numbered_no_feed (codes "new ") state.next_id refl) (told ∙ ap (λ (n : ℕ). (codes "new " ++ decimal n) ++ 10 ∷ []) same) is
     (stands_with memory registry (memory.next_id + 1) storage state (binding name state.next_id ∷ state.names) (put_instance state.next_id (unsaved object) state.instances) (state.next_id + 1) at (subst (λ (t : Turn). IsSound t.state) is sound)
     (more_names registry.names memory.registry.names state.names name state.next_id (subst (λ (n : ℕ). SameNames registry.names (binding name n ∷ memory.registry.names)) same names) at.stands.names)
     (instances ∙ (ap (λ (n : ℕ). put_instance n (unsaved object) memory.registry.instances) same ∙ ap (put_instance state.next_id (unsaved object)) at.stands.instances))
@@ -73,12 +75,12 @@ made_answers memory registry text name object storage state turn at is sound nam
     made = record (bound state name state.next_id) { next_id = state.next_id + 1; instances = put_instance state.next_id (unsaved object) state.instances }
 
 pub drop_reserved : (text : List ℕ) (memory : Memory) (storage : Storage) (state : State) (name : List ℕ) → StandsAt memory storage state → is_root_name name ≡ true → text ≡ codes "refused reserved" ++ 10 ∷ [] → Answers text memory storage (drop_turn state name)
-drop_reserved text memory storage state name at is told = answers_turn (codes "refused reserved") text memory storage state (drop_turn state name) told
+drop_reserved text memory storage state name at is told = answers_turn (codes "refused reserved") text memory storage state (drop_turn state name) (refused_no_feed Reserved) told
     (judged_first state (reserved (is_root_name name)) (no_name (not (is_bound state name)) ∷ []) (ok (record state { names = dropped name state.names })) is) at
 
 pub drop_unbound : (text : List ℕ) (memory : Memory) (storage : Storage) (state : State) (name : List ℕ) → StandsAt memory storage state → is_root_name name ≡ false → id_in memory.registry.names name ≡ None
     → text ≡ codes "refused no-name" ++ 10 ∷ [] → Answers text memory storage (drop_turn state name)
-drop_unbound text memory storage state name at other none told = answers_turn (codes "refused no-name") text memory storage state (drop_turn state name) told
+drop_unbound text memory storage state name at other none told = answers_turn (codes "refused no-name") text memory storage state (drop_turn state name) (refused_no_feed NoName) told
     (judged_next state (reserved (is_root_name name)) (no_name (not (is_bound state name)) ∷ []) (ok (record state { names = dropped name state.names })) other
     ∙ judged_first state (no_name (not (is_bound state name))) [] (ok (record state { names = dropped name state.names })) (ap (λ (o : Option ℕ). not (is_some o)) (sym (at.stands.names name) ∙ none))) at
 
@@ -86,7 +88,7 @@ pub dropped_answers : (memory : Memory) (registry : Registered) (text name : Lis
     → SameNames registry.names (unbound name memory.registry.names) → registry.instances ≡ memory.registry.instances → text ≡ codes "ok" ++ 10 ∷ []
     → Answers text (record memory { registry = registry }) storage (drop_turn state name)
 dropped_answers memory registry text name storage state at other id is names instances told =
-    answers_turn (codes "ok") text (record memory { registry = registry }) storage left (drop_turn state name) told made
+    answers_turn (codes "ok") text (record memory { registry = registry }) storage left (drop_turn state name) ok_no_feed told made
     (stands_with memory registry memory.next_id storage state (dropped name state.names) state.instances state.next_id at (subst (λ (t : Turn). IsSound t.state) made (drop_line_sound state name at.stands.sound))
     (fewer_names registry.names memory.registry.names state.names name names at.stands.names) (instances ∙ at.stands.instances) at.stands.next_id (omega arith) (λ y. refl))
   where

@@ -16,6 +16,7 @@ use Rattle.session.specs.Refusals.{refused_text}
 use Rattle.session.specs.declared.memory.Memory.{Memory}
 use Rattle.session.specs.declared.refusal.Refusal.TheVariants.{BadLine}
 use Rattle.session.proofs.OneForm.{spelled_one_form}
+use Rattle.session.proofs.Lines.{refused_no_feed}
 use Rattle.session.proofs.Told.{answers_turn}
 
 pub is_read : (text : List ℕ) (command : ReadCommand) → command_of text ≡ Some (meant command) → IsRead command
@@ -35,4 +36,4 @@ spells_none text none = by (command_of text) refl
 -- a line that spells no command is refused
 pub bad_line : (text bytes : List ℕ) (memory : Memory) (storage : Storage) (due : Turn) → BeginsLine text memory storage due → ¬ (IsLine text) → bytes ≡ refused_text BadLine → Answers bytes memory storage due
 bad_line text bytes memory storage due begins none told =
-    answers_turn (codes "refused " ++ codes "bad-line") bytes memory storage begins.state due told (begins.due_is ∙ turn_read most_bytes begins.state text None (spells_none text none)) begins.stands
+    answers_turn (codes "refused " ++ codes "bad-line") bytes memory storage begins.state due (refused_no_feed BadLine) told (begins.due_is ∙ turn_read most_bytes begins.state text None (spells_none text none)) begins.stands

@@ -7,7 +7,9 @@ use Rattle.session.specs.declared.outcome.Outcome.TheVariants as outcomes
 use Rattle.session.specs.declared.outcome.Phase.TheVariants as phases
 use Rattle.session.specs.declared.refusal.Stop.{Stop}
 use Rattle.session.specs.declared.refusal.Stop.TheVariants.{Refused, NoMemory}
+use Rattle.session.specs.declared.memory.Memory.{Memory}
 use Rattle.session.specs.Refusals.{IsOutcomeOf}
+use Rattle.session.specs.Steady.{IsSteadyOutcome}
 use Rattle.session.specs.Steps.{IsShort, outcome_steps}
 
 said_short : (said : Result (List ℕ) Stop) (outcome : Outcome) → IsOutcomeOf said outcome → IsShort outcome
@@ -19,6 +21,16 @@ said_short (Err NoMemory) outcome is = absurd is
 pub if_said_short : (said : Result (List ℕ) Stop) {E : Type 0} (outcome : Result Outcome E) → IfOk outcome (IsOutcomeOf said) → IfOk outcome IsShort
 if_said_short said (Ok o) is = said_short said o is
 if_said_short said (Err e) is = tt
+
+-- an answer is steady
+said_steady : (said : Result (List ℕ) Stop) (outcome : Outcome) (memory : Memory) → IsOutcomeOf said outcome → IsSteadyOutcome memory outcome
+said_steady (Ok text) outcome memory is = subst (λ (o : Outcome). IsSteadyOutcome memory o) (sym is) tt
+said_steady (Err (Refused refusal)) outcome memory is = subst (λ (o : Outcome). IsSteadyOutcome memory o) (sym is) tt
+said_steady (Err NoMemory) outcome memory is = absurd is
+
+pub if_said_steady : (said : Result (List ℕ) Stop) {E : Type 0} (outcome : Result Outcome E) (memory : Memory) → IfOk outcome (IsOutcomeOf said) → IfOk outcome (IsSteadyOutcome memory)
+if_said_steady said (Ok o) memory is = said_steady said o memory is
+if_said_steady said (Err e) memory is = tt
 
 pub few_steps : (outcome : Outcome) (g : Graph) → IsShort outcome → outcome_steps outcome g < 4 * length g + 4
 few_steps (outcomes.Answer text) g short = omega arith

@@ -5,24 +5,27 @@ use Rattle.std.proofs.lemmas.List.{length-map}
 use Rattle.type_desc.specs.declared.desc.Kind.{Kind}
 use Rattle.type_desc.specs.declared.desc.Member.{Member}
 use Rattle.type_desc.specs.declared.desc.TypeDesc.{TypeDesc}
-use Rattle.type_dictionary.specs.Latest.{desc_of}
 use Rattle.entity_form.specs.Values.{kind_of}
 use Rattle.graph_export.specs.Line.{line}
+use Rattle.graph_export.proofs.Feedless.{line_no_feed}
 use Rattle.graph_model.specs.Served.{Storage}
+use Rattle.session_model.specs.Types.{desc_of}
 use Rattle.session_model.specs.Instances.{Instance}
 use Rattle.session_model.specs.Answer.{State, answered, desc_of_instance, id_of, is_bound, named_instance, no_desc, no_name, show_turn}
 use Rattle.session.specs.declared.memory.Memory.{Memory}
+use Rattle.session.specs.declared.refusal.Refusal.TheVariants.{NoName}
 use Rattle.session.specs.Due.{Answers}
 use Rattle.session.specs.Places.{IsNamed, instance_named}
 use Rattle.session.specs.Shown.{IsDescOf, LacksDesc}
 use Rattle.session.specs.Stands.{Stands, StandsAt}
 use Rattle.session.proofs.Found.{Names, names_it, names_none}
 use Rattle.session.proofs.Judged.{judged_first, judged_next}
+use Rattle.session.proofs.Lines.{refused_no_feed}
 use Rattle.session.proofs.Told.{answers_turn}
 
 pub shown_answers : (memory : Memory) (storage : Storage) (state : State) (name text : List ℕ) (id : ℕ) (i : Instance) (desc : TypeDesc) → StandsAt memory storage state
     → IsNamed memory.registry name id i → IsDescOf memory.types i desc → text ≡ line id i.object desc ++ 10 ∷ [] → Answers text memory storage (show_turn state name)
-shown_answers memory storage state name text id i desc at named is told = answers_turn (line id i.object desc) text memory storage state (show_turn state name) told shown at
+shown_answers memory storage state name text id i desc at named is told = answers_turn (line id i.object desc) text memory storage state (show_turn state name) (line_no_feed id i.object desc) told shown at
   where
     names : Names state name id i
     names = names_it memory storage state name id i at.stands named
@@ -48,5 +51,5 @@ has_desc memory storage state name id i s named lacks =
 -- a name that is not bound is refused
 pub show_unbound : (text : List ℕ) (memory : Memory) (storage : Storage) (state : State) (name : List ℕ) → StandsAt memory storage state → state.started ≡ true → instance_named memory.registry name ≡ None
     → text ≡ codes "refused no-name" ++ 10 ∷ [] → Answers text memory storage (show_turn state name)
-show_unbound text memory storage state name at started none told = answers_turn (codes "refused no-name") text memory storage state (show_turn state name) told
+show_unbound text memory storage state name at started none told = answers_turn (codes "refused no-name") text memory storage state (show_turn state name) (refused_no_feed NoName) told
     (judged_first state (no_name (not (is_bound state name))) [] (answered state (line (id_of state name) (named_instance state name).object (desc_of_instance state (named_instance state name)))) (ap not (names_none memory storage state name at.stands started none))) at

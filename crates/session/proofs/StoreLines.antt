@@ -37,6 +37,7 @@ use Rattle.session.specs.Refusals.{IsRefusal}
 use Rattle.session.specs.Stands.{Stands, StandsAt}
 use Rattle.session.specs.StoreAsks.{Gathers, IsGathered, gathered_by}
 use Rattle.session.proofs.Judged.{judged_first, judged_next}
+use Rattle.session.proofs.Lines.{stored_no_feed}
 use Rattle.session.proofs.Told.{answers_turn}
 
 -- ---- what was gathered is saved
@@ -207,7 +208,7 @@ pub store_awaits : (is_next_type : List (List ℕ) → List ℕ → Bool) (store
     → Awaits is_next_type (asks.Store op) (phases.Storing count) (record memory { registry = registry }) storage (store_turn most_bytes state name (gathered_by storer))
 store_awaits is_next_type storer memory registry op count name storage state g at started names saved counted =
     subst (λ (t : Turn). Awaits is_next_type (asks.Store op) (phases.Storing count) (record memory { registry = registry }) storage t) (sym d.turn_is)
-    (record { may = may_store is_next_type storer memory storage state name op at d; due = refl; then_ = replied })
+    (record { may = may_store is_next_type storer memory storage state name op at d; due = refl; suits = counted; then_ = replied })
   where
     d : IsDueStore storer state name op
     d = due_store storer memory storage state name op at started g
@@ -223,5 +224,5 @@ store_awaits is_next_type storer memory registry op count name storage state g a
 
     replied : (reply : Reply) (new : Storage) → Served storage (asks.Store op) reply new → Replied (phases.Storing count) reply (record memory { registry = registry }) new last
     replied reply new served = subst (λ (r : Reply). Replied (phases.Storing count) r (record memory { registry = registry }) new last) (sym served.reply_is)
-        (answers_turn front (stored_text (storage.number + 1) count) (record memory { registry = registry }) new last.state last told refl
+        (answers_turn front (stored_text (storage.number + 1) count) (record memory { registry = registry }) new last.state last (stored_no_feed (state.number + 1) (length op.records)) told refl
         (stands_stored storer memory registry storage new state name op reply at started d g.next_id names saved served))

@@ -1,6 +1,7 @@
 -- An answer is what is due of a turn that is answered so.
 use Rattle.std.proofs.Common.{◌≡◌, ℕ, Bool, List, [], ◌∷◌, ◌++◌, Result, Ok, Err, refl, subst, sym}
 use Rattle.std.specs.Prelude.{codes, IfOk}
+use Rattle.graph_export.specs.Line.{HasNoFeed}
 use Rattle.graph_model.specs.Served.{Storage}
 use Rattle.session_model.specs.Answer.{State, Turn, answered}
 use Rattle.session.specs.declared.memory.Memory.{Memory}
@@ -10,17 +11,18 @@ use Rattle.session.specs.declared.refusal.Stop.TheVariants.{Refused, NoMemory}
 use Rattle.session.specs.Stands.{StandsAt}
 use Rattle.session.specs.Due.{Answers, Meets}
 use Rattle.session.specs.Refusals.{IsOutcomeOf, IsRefusal, Says, code_of, refused_text}
+use Rattle.session.proofs.Lines.{refused_no_feed}
 
-pub answers : (front : List ℕ) (memory : Memory) (storage : Storage) (state : State) → StandsAt memory storage state → Answers (front ++ 10 ∷ []) memory storage (answered state front)
-answers front memory storage state stands = record { text_is = refl; line = (front, refl); records = refl; stores = refl; stands = stands }
+pub answers : (front : List ℕ) (memory : Memory) (storage : Storage) (state : State) → HasNoFeed front → StandsAt memory storage state → Answers (front ++ 10 ∷ []) memory storage (answered state front)
+answers front memory storage state none stands = record { text_is = refl; line = record { text = front; bytes_is = refl; no_feed = none }; records = refl; stores = refl; stands = stands }
 
-pub answers_turn : (front text : List ℕ) (memory : Memory) (storage : Storage) (state : State) (turn : Turn) → text ≡ front ++ 10 ∷ [] → turn ≡ answered state front → StandsAt memory storage state
+pub answers_turn : (front text : List ℕ) (memory : Memory) (storage : Storage) (state : State) (turn : Turn) → HasNoFeed front → text ≡ front ++ 10 ∷ [] → turn ≡ answered state front → StandsAt memory storage state
     → Answers text memory storage turn
-answers_turn front text memory storage state turn t e stands =
-    subst (λ (t' : Turn). Answers text memory storage t') (sym e) (subst (λ (bytes : List ℕ). Answers bytes memory storage (answered state front)) (sym t) (answers front memory storage state stands))
+answers_turn front text memory storage state turn none t e stands =
+    subst (λ (t' : Turn). Answers text memory storage t') (sym e) (subst (λ (bytes : List ℕ). Answers bytes memory storage (answered state front)) (sym t) (answers front memory storage state none stands))
 
 pub says_refusal : (stop : Stop) (memory : Memory) (storage : Storage) (state : State) (turn : Turn) → StandsAt memory storage state → IsRefusal state turn stop → Says (Err stop) memory storage turn
-says_refusal (Refused refusal) memory storage state turn stands is = answers_turn (codes "refused " ++ code_of refusal) (refused_text refusal) memory storage state turn refl is stands
+says_refusal (Refused refusal) memory storage state turn stands is = answers_turn (codes "refused " ++ code_of refusal) (refused_text refusal) memory storage state turn (refused_no_feed refusal) refl is stands
 says_refusal NoMemory memory storage state turn stands is = tt
 
 pub meets_said : (is_next_type : List (List ℕ) → List ℕ → Bool) (said : Result (List ℕ) Stop) (outcome : Outcome) (memory : Memory) (storage : Storage) (turn : Turn)

@@ -14,7 +14,6 @@ use Rattle.type_dictionary.specs.declared.fault.DeclareFault.{DeclareFault}
 use Rattle.type_dictionary.specs.declared.fault.DeclareFault.TheVariants.{TooManyTypes}
 use Rattle.type_dictionary.specs.Declaring.{IsDeclaredAs, IsRecordable}
 use Rattle.type_dictionary.specs.Faults.{RefusesType}
-use Rattle.type_dictionary.specs.Records.{records_from}
 use Rattle.session_model.specs.Types.{is_root_type, repeats_member}
 use Rattle.session_model.specs.Answer.{Refusal, State, Turn, answered, duplicate, is_full, is_known, reserved, type_known, type_new, type_turn}
 use Rattle.session_model.specs.Sound.{IsSound}
@@ -27,8 +26,9 @@ use Rattle.session.specs.declared.refusal.Refusal.TheVariants as refusals
 use Rattle.session.specs.Declarations.{HasNoRoom, IsJudgedType, IsNewType, IsOldType, MayBeDeclared, RepeatsMember}
 use Rattle.session.specs.Due.{Answers, Awaits, Replied, without}
 use Rattle.session.specs.Refusals.{IsRefusal}
-use Rattle.session.specs.Stands.{Admits, StandsAt}
+use Rattle.session.specs.Stands.{Admits, StandsAt, records_from}
 use Rattle.session.proofs.Judged.{judged_first, judged_next, judged_none}
+use Rattle.session.proofs.Lines.{numbered_no_feed}
 use Rattle.session.proofs.Told.{answers_turn}
 use Rattle.session.proofs.TypeWords.{is_other, known_id, known_is_latest, new_is_not_latest, own_names, records_behind}
 
@@ -105,7 +105,7 @@ known_turn state desc id old =
 
 pub type_answers : (memory : Memory) (storage : Storage) (state : State) (desc : TypeDesc) (id : ℕ) (text : List ℕ) → StandsAt memory storage state → IsOldType memory.types desc id
     → text ≡ (codes "type " ++ decimal id) ++ 10 ∷ [] → Answers text memory storage (type_turn state desc)
-type_answers memory storage state desc id text at old told = answers_turn (codes "type " ++ decimal id) text memory storage state (type_turn state desc) told
+type_answers memory storage state desc id text at old told = answers_turn (codes "type " ++ decimal id) text memory storage state (type_turn state desc) (numbered_no_feed (codes "type ") id refl) told
     (known_turn state desc id (subst (λ (types : List TypeDesc). IsOldType types desc id) at.stands.types old)) at
 
 -- ---- a new type
@@ -146,7 +146,7 @@ pub type_awaits : (is_next_type : List (List ℕ) → List ℕ → Bool) (memory
     → Awaits is_next_type (asks.KeepType text) (phases.Saying answer) (record memory { types = types }) storage (type_turn state desc)
 type_awaits is_next_type memory types storage state desc id text answer admits at new gained told =
     subst (λ (t : Turn). Awaits is_next_type (asks.KeepType text) (phases.Saying answer) (record memory { types = types }) storage t) (sym turn_is)
-    (record { may = may; due = ap (λ (bytes : List ℕ). bytes ∷ []) (sym n.given.spelled); then_ = replied })
+    (record { may = may; due = ap (λ (bytes : List ℕ). bytes ∷ []) (sym n.given.spelled); suits = tt; then_ = replied })
   where
     n : IsNewType state.types desc id text
     n = subst (λ (ts : List TypeDesc). IsNewType ts desc id text) at.stands.types new
@@ -164,7 +164,7 @@ type_awaits is_next_type memory types storage state desc id text answer admits a
     replied : (reply : Reply) (later : Storage) → Served storage (asks.KeepType text) reply later
         → Replied (phases.Saying answer) reply (record memory { types = types }) later (without (asks.KeepType text) (type_new state desc))
     replied reply later served = answers_turn (codes "type " ++ decimal (16 + length state.types)) answer (record memory { types = types }) later (type_new state desc).state
-        (without (asks.KeepType text) (type_new state desc)) (told ∙ ap (λ (i : ℕ). (codes "type " ++ decimal i) ++ 10 ∷ []) n.given.next) refl
+        (without (asks.KeepType text) (type_new state desc)) (numbered_no_feed (codes "type ") (16 + length state.types) refl) (told ∙ ap (λ (i : ℕ). (codes "type " ++ decimal i) ++ 10 ∷ []) n.given.next) refl
         (stands_more memory types storage later state desc text reply at sound (gained ∙ ap (λ (ts : List TypeDesc). ts ++ desc ∷ []) at.stands.types) n.given.spelled served)
 
 -- ---- what the dictionary tells

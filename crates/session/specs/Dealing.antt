@@ -12,7 +12,7 @@ use Rattle.session.specs.declared.session.Given.TheVariants as given
 use Rattle.session.specs.declared.session.Session.{Session}
 use Rattle.session.specs.declared.session.Turn.{Turn as Step}
 use Rattle.session.specs.declared.session.Turn.TheVariants as step
-use Rattle.session.specs.Due.{IsDue, Replied, without}
+use Rattle.session.specs.Due.{IsDue, Replied, SuitsPhase, without}
 use Rattle.session.specs.Exports.{IsTellingFor}
 use Rattle.session.specs.Limits.{most_bytes}
 use Rattle.session.specs.Lines.{IsLine}
@@ -54,10 +54,16 @@ MayGive (given.Line text) session storage due = AwaitsLine session.waiting × Be
 MayGive (given.Reply reply) session storage due = AfterReply session.waiting reply session.memory storage due
 MayGive given.Printed session storage due = AfterPrint session.waiting session.memory storage due
 
+-- what is waited for is the reply to the ask
+abbrev pub AwaitsReply : Ask → Waiting → Type 0
+AwaitsReply ask (waits.ForReply phase) = SuitsPhase ask phase
+AwaitsReply ask _ = ⊥
+
 -- the ask may be asked and is due; once it is served its reply may be given
 pub record Asks (is_next_type : List (List ℕ) → List ℕ → Bool) (ask : Ask) (session : Session) (storage : Storage) (due : Turn) : Type 0 where
   pub may : MayAsk is_next_type storage ask
   pub due_next : IsDue ask due
+  pub suits : AwaitsReply ask session.waiting
   pub then_ : (reply : Reply) (new : Storage) → Served storage ask reply new → AfterReply session.waiting reply session.memory new (without ask due)
   pub steady : (reply : Reply) (new : Storage) → Served storage ask reply new → steps_left session.waiting new.graph ≤ steps_left session.waiting storage.graph
 

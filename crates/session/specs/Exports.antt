@@ -5,10 +5,8 @@ use Rattle.graph_model.specs.Ids.{has, insert, rises}
 use Rattle.graph_model.specs.Graph.{Graph, IsReached, edges, entity_of, has_edge, lists}
 use Rattle.graph_model.specs.declared.entity.Entity.{Entity}
 use Rattle.type_desc.specs.declared.desc.TypeDesc.{TypeDesc}
-use Rattle.type_dictionary.specs.Latest.{desc_of}
-use Rattle.entity_form.specs.Form.{Holds}
-use Rattle.entity_form.specs.Values.{kinds_of}
-use Rattle.entity_form.specs.declared.value.Value.{Value}
+use Rattle.entity_form.specs.declared.value.Object.{Object}
+use Rattle.lazy_refs.specs.Forms.{IsObjectOf}
 use Rattle.session_model.specs.Answer.{State, Turn, export_turn, exported, reached_records}
 use Rattle.session_model.specs.Sound.{IsRightGraph}
 use Rattle.graph_model.specs.Served.{Storage}
@@ -103,10 +101,19 @@ IsExportStep state text p (steps.Line bytes) = (p.asked ≡ None) × IsLine byte
 IsExportStep state text p (steps.End bytes) = IsLine bytes × (text ++ bytes ≡ (export_turn state).text)
 IsExportStep state text p (steps.Broken id) = ⊥
 
--- the line of the entity, by its stored type; or it has not its type's form
-abbrev pub IsLineOf : List TypeDesc → ℕ → Entity → Option (List ℕ) → Type 0
-IsLineOf types id entity None = (desc : TypeDesc) (values : List Value) → desc_of types entity.type_id ≡ Some desc → ¬ (Holds (kinds_of desc) entity.refs entity.plain values)
-IsLineOf types id entity (Some bytes) = (state : State) → state.types ≡ types → bytes ≡ exported state (record { id = id; entity = entity })
+-- the bytes are the line of every entity that holds the object, by its stored type
+abbrev pub IsLineOf : List TypeDesc → ℕ → Object → List ℕ → Type 0
+IsLineOf types id object bytes = (state : State) (entity : Entity) → state.types ≡ types → IsObjectOf types entity object → bytes ≡ exported state (record { id = id; entity = entity })
+
+-- an id that is asked for is the one whose entity is due
+abbrev pub IsDueNext : Exported → ExportStep → Type 0
+IsDueNext p (steps.Look id) = p.asked ≡ Some id
+IsDueNext p step = Unit {0}
+
+-- and no entity is broken
+abbrev pub GoesOn : Exported → ExportStep → Type 0
+GoesOn p (steps.Broken id) = ⊥
+GoesOn p step = IsDueNext p step
 
 -- ---- the line `export`
 

@@ -1,9 +1,11 @@
+pub mod Broken
 pub mod Changes
 pub mod Dealing
 pub mod Declarations
 pub mod Due
-pub mod Exports
 pub mod ExportEnds
+pub mod Exports
+pub mod Fitting
 pub mod Limits
 pub mod Lines
 pub mod LoadSteps
@@ -14,7 +16,6 @@ pub mod Places
 pub mod Refusals
 pub mod Shown
 pub mod Stands
+pub mod Steady
 pub mod Steps
 pub mod StoreAsks
-pub mod Fitting
-pub mod Steady

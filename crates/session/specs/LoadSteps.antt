@@ -7,7 +7,8 @@ use Rattle.session_model.specs.Instances.{has_instance}
 use Rattle.session_model.specs.Loading.{load}
 use Rattle.session_model.specs.Answer.{State, Turn, id_in, loaded_turn, with_loaded}
 use Rattle.session_model.specs.Sound.{IsToLoad}
-use Rattle.lazy_refs.specs.Mappings.{AreMappings}
+use Rattle.type_desc.specs.declared.desc.TypeDesc.{TypeDesc}
+use Rattle.lazy_refs.specs.Mappings.{AreMappings, AreTypedIn}
 use Rattle.lazy_refs.specs.Steps.{IsReady, IsStep}
 use Rattle.lazy_refs.specs.Walks.{Progress}
 use Rattle.lazy_refs.specs.declared.step.LoadStep.{LoadStep}
@@ -58,6 +59,11 @@ abbrev pub IsFailed : LoadStep → Type 0
 IsFailed (steps.Want id) = ⊥
 IsFailed (steps.Ready all) = ⊥
 IsFailed _ = Unit {0}
+
+-- all objects that are loaded are of known types, with values of their kinds
+abbrev pub IsTypedEnd : List TypeDesc → LoadStep → Type 0
+IsTypedEnd types (steps.Ready all) = AreTypedIn types all
+IsTypedEnd types _ = Unit {0}
 
 -- the outcome tells why
 abbrev pub IsFailure : LoadStep → Outcome → Type 0

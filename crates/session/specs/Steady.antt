@@ -1,6 +1,11 @@
 -- What a session keeps for itself, whatever a storage answers.
-use Rattle.lazy_refs.specs.Mappings.{AreMappings}
+use Rattle.std.specs.Prelude.{◌≡◌, true, is_some}
+use Rattle.graph_model.specs.declared.ask.Ask.{Ask}
+use Rattle.lazy_refs.specs.Advances.{IsAskedNext}
+use Rattle.lazy_refs.specs.Mappings.{AreMappings, AreTypedIn}
+use Rattle.lazy_refs.specs.Steps.{IsTypedStep}
 use Rattle.lazy_refs.specs.Walks.{Progress}
+use Rattle.lazy_refs.specs.declared.step.LoadStep.{LoadStep}
 use Rattle.storer.specs.Gathered.{AreKnown}
 use Rattle.session.specs.Due.{SuitsPhase}
 use Rattle.session.specs.Loads.{IsRead}
@@ -28,17 +33,31 @@ IsSteadyPurpose memory (purposes.Follow new id) = IsUnbound memory.registry new
 -- what is loaded goes by the types and the pairs in memory
 pub record IsSteadyLoading (memory : Memory) (loading : Progress) : Type 0 where
   pub mappings : AreMappings memory.types memory.table loading.mappings
+  pub typed : AreTypedIn memory.types loading.loaded
+
+-- what a step of the loading leaves
+pub record IsSteadyStep (memory : Memory) (loading : Progress) (step : LoadStep) (purpose : Purpose) : Type 0 where
+  pub mappings : AreMappings memory.types memory.table loading.mappings
+  pub typed : IsTypedStep memory.types loading step
+  pub asks : IsAskedNext loading step
+  pub steady : IsSteadyPurpose memory purpose
 
 -- what a phase keeps while its reply is waited for
 abbrev pub IsSteadyPhase : Memory → Phase → Type 0
 IsSteadyPhase memory (phases.Looking loading purpose) = IsSteadyLoading memory loading × IsSteadyPurpose memory purpose
 IsSteadyPhase memory (phases.Holding purpose) = IsSteadyPurpose memory purpose
+IsSteadyPhase memory (phases.Exporting export) = is_some export.asked ≡ true
 IsSteadyPhase memory _ = Unit {0}
 
 -- what is asked is what the phase waits for, and the phase is steady
 abbrev pub IsSteadyOutcome : Memory → Outcome → Type 0
 IsSteadyOutcome memory (outcomes.Ask ask phase) = SuitsPhase ask phase × IsSteadyPhase memory phase
 IsSteadyOutcome memory _ = Unit {0}
+
+-- the outcome is that this is asked
+abbrev pub IsAskOf : Ask → Outcome → Type 0
+IsAskOf asked (outcomes.Ask ask phase) = ask ≡ asked
+IsAskOf asked _ = ⊥
 
 abbrev pub IsSteadyWaiting : Memory → Waiting → Type 0
 IsSteadyWaiting memory (waits.ForReply phase) = IsSteadyPhase memory phase

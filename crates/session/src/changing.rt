@@ -1,9 +1,11 @@
 //! The lines that give a member another value: `set`, `add`, `cut` and `root`.
 
-ghost use Rattle.std.specs.Prelude.{◌≡◌, ◌<◌, ◌++◌, ◌∷◌, [], ℕ, Bool, List, Some, true, length, option_map, IfOk};
+ghost use Rattle.std.specs.Prelude.{◌≡◌, ◌↔◌, ℕ, Bool, List, Some, true, option_map, IfOk, OnErr, OnOk, IsTrue};
 ghost use Rattle.graph_model.specs.Served.{Storage};
+ghost use Rattle.type_desc.specs.declared.desc.Kind.{Kind as AnyKind};
+ghost use Rattle.entity_form.specs.Values.{kind_of};
 ghost use Rattle.entity_form.specs.declared.value.Value.{Value as AnyValue};
-ghost use Rattle.session_model.specs.Answer.{State, Turn, add_turn, cut_turn, given, given_bytes, given_id, given_int, root_turn, set_turn, target_id, without_at};
+ghost use Rattle.session_model.specs.Answer.{State, Turn, add_turn, cut_turn, given, given_bytes, given_id, given_int, root_turn, set_turn, target_id};
 ghost use Rattle.session_model.specs.Commands.{SetMember, integer_of, target_of};
 ghost use Rattle.session_model.specs.Answer.{hex_bytes};
 ghost use Rattle.session_model.specs.Sound.{IsProperCommand, IsSound};
@@ -13,7 +15,8 @@ ghost use Rattle.session.specs.Stands.{StandsAt};
 ghost use Rattle.session.specs.Due.{Meets};
 ghost use Rattle.session.specs.Steps.{IsShort};
 ghost use Rattle.session.specs.Refusals.{Says};
-ghost use Rattle.session.specs.Changes.{Gives, IsChange, MayChange, root_value};
+ghost use Rattle.session.specs.Steady.{IsSteadyOutcome, KnowsObjects};
+ghost use Rattle.session.specs.Changes.{Gives, IsChange, IsMade, MayChange, root_value};
 
 use crate::answers::{line, outcome_of};
 use crate::memory::Memory;
@@ -21,7 +24,8 @@ use crate::outcome::Outcome;
 use crate::places::{named, place_of, refs_in};
 use crate::refusal::{Refusal, Stop};
 use entity_form::Value;
-use graph_model::{Bytes, Ids, NoMemory};
+use graph_model::{Bytes, NoMemory};
+use object_registry::Registry;
 use script_text::{GivenInteger, Index, Target, bytes_in, integer_in, target_in};
 use std::alloc::Global;
 use type_desc::Text;
@@ -29,25 +33,58 @@ use type_desc::Text;
 /// The id of the root.
 const ROOT_ID: u64 = 1;
 
-/// A member's new value.
+/// How a member's value changes.
+#[derive(Debug, Drop)]
+pub enum Edit {
+    /// It is another value of the same kind.
+    Set(Value),
+    /// The id comes behind the last of a list.
+    Push(u64),
+    /// The id with this index is taken out of a list, and the rest close up.
+    Take(usize),
+}
+
+/// A change of a member.
 #[derive(Debug, Drop)]
 pub struct Change {
     /// The object's id.
     pub id: u64,
     /// The member's index, from 0.
     pub index: u32,
-    pub value: Value,
+    pub edit: Edit,
 }
 
-/// Gives a member its new value, which is answered `ok`.
+/// Makes the change in place. With no memory, nothing changes.
+fn make_change(registry: &mut Registry, change: Change) -> Result<(), NoMemory>
+    requires { MayChange registry.old change }
+    ensures ok { OnOk result (IsMade change registry.old.instances registry.new.instances) }
+    ensures err { OnErr result (registry.new.instances ≡ registry.old.instances) }
+    ensures names { registry.new.names ≡ registry.old.names }
+{
+    let Change { id, index, edit } = change;
+    match edit {
+        Edit::Set(value) => {
+            registry.set(id, index, value);
+            Ok(())
+        }
+        Edit::Push(target) => registry.push_ref(id, index, target),
+        Edit::Take(at) => {
+            registry.take_ref(id, index, at);
+            Ok(())
+        }
+    }
+}
+
+/// Makes the change, which is answered `ok`.
 fn apply(memory: &mut Memory, judged: Result<Change, Stop>) -> Result<Bytes, Stop>
     requires { IfOk judged (MayChange memory.old.registry) }
-    ensures { (storage : Storage) (state : State) (turn : Turn) → StandsAt memory.old storage state → IsChange judged state turn → IsSound turn.state
+    ensures known { KnowsObjects memory.old → KnowsObjects memory.new }
+    ensures says { (storage : Storage) (state : State) (turn : Turn) → StandsAt memory.old storage state → IsChange judged state turn → IsSound turn.state
         → Says result memory.new storage turn }
 {
     match judged {
         Ok(change) => {
-            memory.registry.set(change.id, change.index, change.value);
+            make_change(&mut memory.registry, change)?;
             Ok(line(memory.alloc, "ok")?)
         }
         Err(stop) => Err(stop),
@@ -55,7 +92,10 @@ fn apply(memory: &mut Memory, judged: Result<Change, Stop>) -> Result<Bytes, Sto
 }
 
 fn changed(memory: &mut Memory, judged: Result<Change, Stop>) -> Result<Outcome, NoMemory>
-    requires { IfOk judged (MayChange memory.old.registry) }
+    requires may { IfOk judged (MayChange memory.old.registry) }
+    requires known { KnowsObjects memory.old }
+    ensures known { OnOk result (KnowsObjects memory.new) }
+    ensures steady { IfOk result (IsSteadyOutcome memory.new) }
     ensures meets { (is_next_type : List (List ℕ) → List ℕ → Bool) (storage : Storage) (state : State) (turn : Turn) → StandsAt memory.old storage state → IsChange judged state turn
         → IsSound turn.state → IfOk result (λ outcome. Meets is_next_type outcome memory.new storage turn) }
     ensures short { IfOk result IsShort }
@@ -111,7 +151,8 @@ fn id_in(memory: &Memory, rest: &Text) -> Result<u64, Stop>
 
 /// What the rest of a line is for a member that has this value now: `WrongKind`, `Range`, `NoName`.
 fn value_in(memory: &Memory, value: &Value, rest: Text) -> Result<Value, Stop>
-    ensures { (state : State) → SameNames memory.now.registry.names state.names → Gives (λ v. v) result (given state rest (Some value.now)) }
+    ensures kind { IfOk result (λ new. kind_of new ≡ kind_of value.now) }
+    ensures given { (state : State) → SameNames memory.now.registry.names state.names → Gives (λ v. v) result (given state rest (Some value.now)) }
 {
     match value {
         Value::Int(_) => Ok(Value::Int(int_in(&rest)?)),
@@ -132,7 +173,7 @@ fn set_change(memory: &Memory, name: &Text, member: &Text, rest: Text) -> Result
     Ok(Change {
         id: place.id,
         index: place.index,
-        value,
+        edit: Edit::Set(value),
     })
 }
 
@@ -143,6 +184,9 @@ pub fn set_member(
     member: &Text,
     rest: Text,
 ) -> Result<Outcome, NoMemory>
+    requires known { KnowsObjects memory.old }
+    ensures known { OnOk result (KnowsObjects memory.new) }
+    ensures steady { IfOk result (IsSteadyOutcome memory.new) }
     ensures meets { (is_next_type : List (List ℕ) → List ℕ → Bool) (storage : Storage) (state : State) → StandsAt memory.old storage state → state.started ≡ true
         → IsProperCommand (SetMember name.now member.now rest) → IfOk result (λ outcome. Meets is_next_type outcome memory.new storage (set_turn state name.now member.now rest)) }
     ensures short { IfOk result IsShort }
@@ -151,31 +195,21 @@ pub fn set_member(
     changed(memory, judged)
 }
 
-/// The ids with one more behind them.
-fn with_last(alloc: Global, ids: &[u64], id: u64) -> Result<Ids, NoMemory>
-    ensures { IfOk result (λ items. items ≡ ids.now ++ id ∷ []) }
-{
-    let mut items = Vec::from_slice(alloc, ids)?;
-    items.push(id)?;
-    Ok(Ids::new(items))
-}
-
 fn add_change(memory: &Memory, name: &Text, member: &Text, target: &Target) -> Result<Change, Stop>
     ensures fits { IfOk result (MayChange memory.now.registry) }
     ensures judged { (storage : Storage) (state : State) → StandsAt memory.now storage state → state.started ≡ true → IsChange result state (add_turn state name.now member.now (target_meant target.now)) }
 {
     let place = place_of(memory, name, member)?;
-    let Some(ids) = refs_in(place.value) else {
+    if refs_in(place.value).is_none() {
         return Err(Stop::Refused(Refusal::WrongKind));
-    };
+    }
     let Some(id) = id_of(memory, target) else {
         return Err(Stop::Refused(Refusal::NoName));
     };
-    let ids = with_last(memory.alloc, ids.as_slice(), id)?;
     Ok(Change {
         id: place.id,
         index: place.index,
-        value: Value::Refs(ids),
+        edit: Edit::Push(id),
     })
 }
 
@@ -186,22 +220,15 @@ pub fn add_to(
     member: &Text,
     target: &Target,
 ) -> Result<Outcome, NoMemory>
+    requires known { KnowsObjects memory.old }
+    ensures known { OnOk result (KnowsObjects memory.new) }
+    ensures steady { IfOk result (IsSteadyOutcome memory.new) }
     ensures meets { (is_next_type : List (List ℕ) → List ℕ → Bool) (storage : Storage) (state : State) → StandsAt memory.old storage state → state.started ≡ true
         → IfOk result (λ outcome. Meets is_next_type outcome memory.new storage (add_turn state name.now member.now (target_meant target.now))) }
     ensures short { IfOk result IsShort }
 {
     let judged = add_change(memory, name, member, target);
     changed(memory, judged)
-}
-
-/// The ids without the one with this index.
-fn without(alloc: Global, ids: &[u64], at: usize) -> Result<Ids, NoMemory>
-    requires { at < length ids.now }
-    ensures { IfOk result (λ items. items ≡ without_at ids.now at) }
-{
-    let mut items = Vec::from_slice(alloc, ids)?;
-    items.remove(at);
-    Ok(Ids::new(items))
 }
 
 fn cut_change(memory: &Memory, name: &Text, member: &Text, index: &Index) -> Result<Change, Stop>
@@ -215,11 +242,10 @@ fn cut_change(memory: &Memory, name: &Text, member: &Text, index: &Index) -> Res
     let Some(at) = index.below(ids.len()) else {
         return Err(Stop::Refused(Refusal::Range));
     };
-    let ids = without(memory.alloc, ids.as_slice(), at)?;
     Ok(Change {
         id: place.id,
         index: place.index,
-        value: Value::Refs(ids),
+        edit: Edit::Take(at),
     })
 }
 
@@ -230,6 +256,9 @@ pub fn cut_from(
     member: &Text,
     index: &Index,
 ) -> Result<Outcome, NoMemory>
+    requires known { KnowsObjects memory.old }
+    ensures known { OnOk result (KnowsObjects memory.new) }
+    ensures steady { IfOk result (IsSteadyOutcome memory.new) }
     ensures meets { (is_next_type : List (List ℕ) → List ℕ → Bool) (storage : Storage) (state : State) → StandsAt memory.old storage state → state.started ≡ true
         → IfOk result (λ outcome. Meets is_next_type outcome memory.new storage (cut_turn state name.now member.now index.now)) }
     ensures short { IfOk result IsShort }
@@ -248,6 +277,12 @@ pub fn root_value(memory: &Memory) -> Option<&Value>
     }
 }
 
+fn is_ref(value: &Value) -> bool
+    ensures { IsTrue result ↔ (kind_of value.now ≡ AnyKind.Ref) }
+{
+    matches!(value, Value::Ref(_))
+}
+
 fn root_change(memory: &Memory, name: &Text) -> Result<Change, Stop>
     ensures fits { IfOk result (MayChange memory.now.registry) }
     ensures judged { (storage : Storage) (state : State) → StandsAt memory.now storage state → state.started ≡ true → IsChange result state (root_turn state name.now) }
@@ -256,17 +291,20 @@ fn root_change(memory: &Memory, name: &Text) -> Result<Change, Stop>
         return Err(Stop::Refused(Refusal::NoName));
     };
     match root_value(memory) {
-        Some(_) => Ok(Change {
+        Some(value) if is_ref(value) => Ok(Change {
             id: ROOT_ID,
             index: 0,
-            value: Value::Ref(id),
+            edit: Edit::Set(Value::Ref(id)),
         }),
-        None => Err(Stop::Refused(Refusal::NoMember)),
+        _ => Err(Stop::Refused(Refusal::NoMember)),
     }
 }
 
 /// `root NAME`: makes the object the root's target.
 pub fn set_root(memory: &mut Memory, name: &Text) -> Result<Outcome, NoMemory>
+    requires known { KnowsObjects memory.old }
+    ensures known { OnOk result (KnowsObjects memory.new) }
+    ensures steady { IfOk result (IsSteadyOutcome memory.new) }
     ensures meets { (is_next_type : List (List ℕ) → List ℕ → Bool) (storage : Storage) (state : State) → StandsAt memory.old storage state → state.started ≡ true
         → IfOk result (λ outcome. Meets is_next_type outcome memory.new storage (root_turn state name.now)) }
     ensures short { IfOk result IsShort }

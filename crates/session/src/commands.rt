@@ -1,11 +1,14 @@
 //! What a command comes to.
 
-ghost use Rattle.std.specs.Prelude.{◌≡◌, ◌<◌, ◌+◌, ◌*◌, ◌&&◌, not, ℕ, Bool, List, true, Some, length, IfOk};
+ghost use Rattle.std.specs.Prelude.{◌≡◌, ◌<◌, ◌+◌, ◌*◌, ◌&&◌, not, ℕ, Bool, List, true, Some, None, length, IfOk, OnOk};
 ghost use Rattle.graph_model.specs.Served.{Storage};
+ghost use Rattle.graph_model.specs.declared.ask.Ask.{Ask as AnyAsk};
 ghost use Rattle.session_model.specs.Answer.{State, command_turn, needs_start, turn_of};
 ghost use Rattle.script_text.specs.Meaning.{meant};
-ghost use Rattle.storer.specs.Gathered.{AreKnown};
+ghost use Rattle.session_model.specs.Commands.{Tidy};
+ghost use Rattle.session.specs.Broken.{broken_by};
 ghost use Rattle.session.specs.Stands.{Admits, StandsAt};
+ghost use Rattle.session.specs.Steady.{IsAskOf, IsSteadyOutcome, KnowsObjects};
 ghost use Rattle.session.specs.Due.{Meets};
 ghost use Rattle.session.specs.Limits.{most_bytes};
 ghost use Rattle.session.specs.Loads.{IsRead};
@@ -27,7 +30,11 @@ use script_text::Command;
 /// Carries out a command, once the script has begun where the command needs that.
 pub fn carry_out(memory: &mut Memory, command: Command) -> Result<Outcome, NoMemory>
     requires read { IsRead command }
-    requires known { AreKnown memory.old.types memory.old.registry.instances }
+    requires known { KnowsObjects memory.old }
+    ensures known { OnOk result (KnowsObjects memory.new) }
+    ensures steady { IfOk result (IsSteadyOutcome memory.new) }
+    ensures whole { IfOk result (λ outcome. broken_by outcome ≡ None) }
+    ensures tidies { meant command ≡ Tidy → IfOk result (IsAskOf AnyAsk.Tidy) }
     ensures meets { (is_next_type : List (List ℕ) → List ℕ → Bool) (storage : Storage) (state : State) → Admits is_next_type → StandsAt memory.old storage state
         → (needs_start (meant command) ≡ true → state.started ≡ true) → IfOk result (λ outcome. Meets is_next_type outcome memory.new storage (command_turn most_bytes state (meant command))) }
     ensures few { (storage : Storage) (state : State) → StandsAt memory.old storage state → IfOk result (λ outcome. outcome_steps outcome storage.graph < 4 * length storage.graph + 4) }
@@ -87,7 +94,11 @@ fn must_begin(memory: &Memory, command: &Command) -> bool
 /// Begins the script where the command needs that, and carries the command out.
 pub fn take_command(memory: &mut Memory, command: Command) -> Result<Outcome, NoMemory>
     requires read { IsRead command }
-    requires stands { (storage : Storage) × (state : State) × StandsAt memory.old storage state }
+    requires known { KnowsObjects memory.old }
+    ensures known { OnOk result (KnowsObjects memory.new) }
+    ensures steady { IfOk result (IsSteadyOutcome memory.new) }
+    ensures whole { IfOk result (λ outcome. broken_by outcome ≡ None) }
+    ensures tidies { meant command ≡ Tidy → memory.old.started ≡ true → IfOk result (IsAskOf AnyAsk.Tidy) }
     ensures meets { (is_next_type : List (List ℕ) → List ℕ → Bool) (storage : Storage) (state : State) → Admits is_next_type → StandsAt memory.old storage state
         → IfOk result (λ outcome. Meets is_next_type outcome memory.new storage (turn_of most_bytes state (Some (meant command)))) }
 {

@@ -1,12 +1,13 @@
 //! The line that declares a type: `type`.
 
-ghost use Rattle.std.specs.Prelude.{◌≡◌, ℕ, Bool, List, IfOk};
+ghost use Rattle.std.specs.Prelude.{◌≡◌, ℕ, Bool, List, IfOk, OnOk};
 ghost use Rattle.graph_model.specs.Served.{Storage};
 ghost use Rattle.type_desc.specs.Grammar.{IsDesc};
 ghost use Rattle.type_desc.specs.declared.desc.TypeDesc.{TypeDesc as AnyDesc};
 ghost use Rattle.session_model.specs.Answer.{State, type_turn};
 ghost use Rattle.session.specs.Declarations.{IsJudgedType, IsNewType, IsSomeRecord};
 ghost use Rattle.session.specs.Stands.{Admits, StandsAt};
+ghost use Rattle.session.specs.Steady.{IsSteadyOutcome, KnowsObjects};
 ghost use Rattle.session.specs.Due.{Meets};
 ghost use Rattle.session.specs.Steps.{IsShort};
 
@@ -39,7 +40,10 @@ fn judged_type(memory: &Memory, desc: &TypeDesc) -> Result<Declared, Stop>
 
 /// Adds the record of a new type, and asks the storage to keep it.
 fn keep_type(memory: &mut Memory, id: u64, text: Bytes) -> Result<Outcome, NoMemory>
-    requires { IsSomeRecord memory.old.types text }
+    requires spelled { IsSomeRecord memory.old.types text }
+    requires known { KnowsObjects memory.old }
+    ensures known { OnOk result (KnowsObjects memory.new) }
+    ensures steady { IfOk result (IsSteadyOutcome memory.new) }
     ensures meets { (is_next_type : List (List ℕ) → List ℕ → Bool) (desc : AnyDesc) (storage : Storage) (state : State) → IsNewType memory.old.types desc id text → Admits is_next_type
         → StandsAt memory.old storage state → IfOk result (λ outcome. Meets is_next_type outcome memory.new storage (type_turn state desc)) }
     ensures short { IfOk result IsShort }
@@ -54,7 +58,10 @@ fn keep_type(memory: &mut Memory, id: u64, text: Bytes) -> Result<Outcome, NoMem
 
 /// `type TYPE KIND:MEMBER ..`: makes the type the latest of its name. A type that is new is kept by the storage before its id is told.
 pub fn declare_type(memory: &mut Memory, desc: &TypeDesc) -> Result<Outcome, NoMemory>
-    requires { IsDesc desc.now }
+    requires grammar { IsDesc desc.now }
+    requires known { KnowsObjects memory.old }
+    ensures known { OnOk result (KnowsObjects memory.new) }
+    ensures steady { IfOk result (IsSteadyOutcome memory.new) }
     ensures meets { (is_next_type : List (List ℕ) → List ℕ → Bool) (storage : Storage) (state : State) → Admits is_next_type → StandsAt memory.old storage state
         → IfOk result (λ outcome. Meets is_next_type outcome memory.new storage (type_turn state desc.now)) }
     ensures short { IfOk result IsShort }

@@ -1,13 +1,15 @@
 //! The line `export`.
 
-ghost use Rattle.std.specs.Prelude.{◌≡◌, ◌≤◌, ◌<◌, ◌+◌, ◌*◌, ℕ, Bool, List, true, length, IfOk};
+ghost use Rattle.std.specs.Prelude.{◌≡◌, ◌≤◌, ◌<◌, ◌+◌, ◌*◌, ℕ, Bool, List, Some, None, true, length, IfOk};
 ghost use Rattle.graph_model.specs.Graph.{Graph, lists};
 ghost use Rattle.graph_model.specs.Served.{Storage};
 ghost use Rattle.session_model.specs.Answer.{State, Turn, export_turn};
 ghost use Rattle.session.specs.Stands.{StandsAt};
+ghost use Rattle.session.specs.Broken.{IsBrokenAt, broken_by, broken_by_export, taken_for};
 ghost use Rattle.session.specs.Due.{Meets};
 ghost use Rattle.session.specs.ExportEnds.{IsRestBehind, steps_behind};
-ghost use Rattle.session.specs.Exports.{IsExportStep, IsTellingFor, TellsEntity};
+ghost use Rattle.session.specs.Exports.{IsDueNext, IsExportStep, IsTellingFor, TellsEntity};
+ghost use Rattle.session.specs.Steady.{IsSteadyOutcome};
 ghost use Rattle.session.specs.declared.memory.Memory.{Memory as AnyMemory};
 ghost use Rattle.session.specs.Steps.{export_steps, outcome_steps};
 
@@ -30,6 +32,8 @@ fn has_root(memory: &Memory) -> bool
 fn outcome_of_step(step: ExportStep, export: Export) -> Outcome
     ensures meets { (is_next_type : List (List ℕ) → List ℕ → Bool) (text : List ℕ) (state : State) (memory : AnyMemory) (storage : Storage) (due : Turn) → IsRestBehind text state memory storage due
         → IsExportStep state text export step → Meets is_next_type result memory storage due }
+    ensures steady { (memory : AnyMemory) → IsDueNext export step → IsSteadyOutcome memory result }
+    ensures broken { broken_by result ≡ broken_by_export step }
     ensures few { (g : Graph) → outcome_steps result g ≡ steps_behind step export g }
 {
     match step {
@@ -44,6 +48,8 @@ fn outcome_of_step(step: ExportStep, export: Export) -> Outcome
 pub fn export(memory: &Memory) -> Result<Outcome, NoMemory>
     ensures meets { (is_next_type : List (List ℕ) → List ℕ → Bool) (storage : Storage) (state : State) → StandsAt memory.now storage state → state.started ≡ true
         → IfOk result (λ outcome. Meets is_next_type outcome memory.now storage (export_turn state)) }
+    ensures steady { IfOk result (IsSteadyOutcome memory.now) }
+    ensures whole { IfOk result (λ outcome. broken_by outcome ≡ None) }
     ensures few { (storage : Storage) → IfOk result (λ outcome. outcome_steps outcome storage.graph ≤ 4 * length storage.graph + 1) }
 {
     let rooted = has_root(memory);
@@ -56,6 +62,8 @@ pub fn export(memory: &Memory) -> Result<Outcome, NoMemory>
 pub fn export_on(memory: &Memory, mut export: Export, entity: Entity) -> Result<Outcome, NoMemory>
     ensures meets { (is_next_type : List (List ℕ) → List ℕ → Bool) (storage : Storage) (due : Turn) → TellsEntity export entity memory.now storage due
         → IfOk result (λ outcome. Meets is_next_type outcome memory.now storage due) }
+    ensures steady { IfOk result (IsSteadyOutcome memory.now) }
+    ensures broken { IfOk result (λ outcome. IsBrokenAt memory.now.types (taken_for export.asked (Some entity)) (broken_by outcome)) }
     ensures nearer { (storage : Storage) (due : Turn) → TellsEntity export entity memory.now storage due → IfOk result (λ outcome. outcome_steps outcome storage.graph < export_steps export storage.graph) }
 {
     let step = export.next(&memory.types, Some(entity))?;
@@ -66,6 +74,8 @@ pub fn export_on(memory: &Memory, mut export: Export, entity: Entity) -> Result<
 pub fn export_behind(memory: &Memory, mut export: Export) -> Result<Outcome, NoMemory>
     ensures meets { (is_next_type : List (List ℕ) → List ℕ → Bool) (storage : Storage) (due : Turn) → IsTellingFor export memory.now storage due
         → IfOk result (λ outcome. Meets is_next_type outcome memory.now storage due) }
+    ensures steady { IfOk result (IsSteadyOutcome memory.now) }
+    ensures whole { IfOk result (λ outcome. broken_by outcome ≡ None) }
     ensures nearer { (storage : Storage) (due : Turn) → IsTellingFor export memory.now storage due → IfOk result (λ outcome. outcome_steps outcome storage.graph ≤ export_steps export storage.graph) }
 {
     let step = export.next(&memory.types, None)?;

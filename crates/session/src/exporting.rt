@@ -3,17 +3,22 @@
 ghost use Rattle.std.specs.Prelude.{◌≡◌, ◌≤◌, ◌<◌, ◌++◌, ◌∷◌, [], ℕ, Bool, List, Some, None, true, false, is_some, IfOk, OnOk, MatchOption};
 ghost use Rattle.graph_model.specs.Graph.{Graph, entity_of, lists};
 ghost use Rattle.graph_model.specs.Ids.{has};
+ghost use Rattle.graph_model.specs.declared.entity.Entity.{Entity as AnyEntity};
 ghost use Rattle.session_model.specs.Answer.{State};
 ghost use Rattle.session_model.specs.Sound.{IsRightGraph};
-ghost use Rattle.session.specs.Exports.{IsExporting, IsExportStep, IsGiven, IsLineOf, IsWalking, begun, looked, starts};
+ghost use Rattle.lazy_refs.specs.Forms.{IsObjectOf};
+ghost use Rattle.storer.specs.Gathered.{IsKnown};
+ghost use Rattle.session.specs.Broken.{IsBrokenAt, broken_by_export, taken_for};
+ghost use Rattle.session.specs.Exports.{GoesOn, IsDueNext, IsExporting, IsExportStep, IsGiven, IsLineOf, IsWalking, begun, looked, starts};
 ghost use Rattle.session.specs.ExportEnds.{steps_behind};
 ghost use Rattle.session.specs.Steps.{export_steps};
 
 use crate::answers::numbered_line;
 use crate::telling::with_line_feed;
-use entity_form::{DecodeFault, decode};
+use entity_form::Object;
 use graph_export::line_of;
 use graph_model::{Bytes, Entity, NoMemory};
+use lazy_refs::read;
 use std::alloc::Global;
 use std::collections::BTreeSet;
 use std::marker::Model;
@@ -86,25 +91,19 @@ fn next_waiting(waiting: &mut Vec<u64>, seen: &BTreeSet<u64>) -> Option<u64>
     None
 }
 
-/// The entity's line by its stored type. None where the entity has not its type's form.
-fn entity_line(
+/// The line of an object, by its type.
+fn object_line(
     alloc: Global,
     types: &Dictionary,
     id: u64,
-    entity: &Entity,
-) -> Result<Option<Bytes>, NoMemory>
-    ensures { IfOk result (IsLineOf types.now id entity.now) }
+    object: &Object,
+) -> Result<Bytes, NoMemory>
+    requires { IsKnown types.now object.now }
+    ensures { IfOk result (IsLineOf types.now id object.now) }
 {
-    let Some(desc) = types.by_id(entity.type_id) else {
-        return Ok(None);
-    };
-    match decode(alloc, entity, desc) {
-        Ok(object) => {
-            let text = line_of(alloc, id, &object, desc)?;
-            Ok(Some(with_line_feed(text)?))
-        }
-        Err(DecodeFault::BadForm { at: _ }) => Ok(None),
-        Err(DecodeFault::NoMemory) => Err(NoMemory),
+    match types.by_id(object.type_id) {
+        Some(desc) => with_line_feed(line_of(alloc, id, object, desc)?),
+        None => unreachable!(),
     }
 }
 
@@ -140,6 +139,7 @@ impl Export {
     fn tell_next(&mut self) -> Result<ExportStep, NoMemory>
         ensures step { (state : State) (text : List ℕ) → self.old.stage ≡ Stage.Telling → self.old.asked ≡ None → IsExporting state text self.old
             → IfOk result (IsExportStep state text self.new) }
+        ensures on { IfOk result (GoesOn self.new) }
         ensures nearer { (g : Graph) → self.old.stage ≡ Stage.Telling → self.old.asked ≡ None → IfOk result (λ step. steps_behind step self.new g < export_steps self.old g) }
     {
         match self.left.pop_first() {
@@ -155,6 +155,7 @@ impl Export {
     fn begin_telling(&mut self) -> Result<ExportStep, NoMemory>
         ensures step { (state : State) → self.old.stage ≡ Stage.Walking → self.old.asked ≡ None → IsRightGraph state.types state.next_id state.graph
             → IsWalking state.graph (starts state.graph) self.old.left [] → IfOk result (IsExportStep state [] self.new) }
+        ensures on { IfOk result (GoesOn self.new) }
         ensures few { (g : Graph) → self.old.stage ≡ Stage.Walking → self.old.asked ≡ None → IfOk result (λ step. steps_behind step self.new g ≤ export_steps self.old g) }
     {
         self.stage = Stage::Telling;
@@ -165,6 +166,7 @@ impl Export {
     /// Asks for the next entity, where none is asked for.
     fn go_on(&mut self) -> Result<ExportStep, NoMemory>
         ensures step { (state : State) (text : List ℕ) → self.old.asked ≡ None → IsExporting state text self.old → IfOk result (IsExportStep state text self.new) }
+        ensures on { IfOk result (GoesOn self.new) }
         ensures few { (g : Graph) → self.old.asked ≡ None → IfOk result (λ step. steps_behind step self.new g ≤ export_steps self.old g) }
     {
         match self.stage {
@@ -179,16 +181,17 @@ impl Export {
         }
     }
 
-    /// Tells the line of the asked id's entity.
-    fn tell(&mut self, types: &Dictionary, id: u64, entity: &Entity) -> Result<ExportStep, NoMemory>
-        ensures step { (state : State) (text : List ℕ) → state.types ≡ types.now → self.old.stage ≡ Stage.Telling → self.old.asked ≡ Some id → IsExporting state text self.old
-            → entity_of state.graph id ≡ Some entity.now → IfOk result (IsExportStep state text self.new) }
+    /// Tells the line of the object that the asked id's entity holds.
+    fn tell(&mut self, types: &Dictionary, id: u64, object: &Object) -> Result<ExportStep, NoMemory>
+        requires { IsKnown types.now object.now }
+        ensures step { (state : State) (text : List ℕ) (entity : AnyEntity) → state.types ≡ types.now → self.old.stage ≡ Stage.Telling → self.old.asked ≡ Some id → IsExporting state text self.old
+            → entity_of state.graph id ≡ Some entity → IsObjectOf types.now entity object.now → IfOk result (IsExportStep state text self.new) }
+        ensures on { IfOk result (GoesOn self.new) }
         ensures nearer { (g : Graph) → self.old.stage ≡ Stage.Telling → self.old.asked ≡ Some id → IfOk result (λ step. steps_behind step self.new g < export_steps self.old g) }
     {
         self.asked = None;
-        match entity_line(self.alloc, types, id, entity) {
-            Ok(Some(line)) => Ok(ExportStep::Line(line)),
-            Ok(None) => Ok(ExportStep::Broken { id }),
+        match object_line(self.alloc, types, id, object) {
+            Ok(line) => Ok(ExportStep::Line(line)),
             Err(NoMemory) => Err(NoMemory),
         }
     }
@@ -197,11 +200,33 @@ impl Export {
     fn walk(&mut self, id: u64, entity: &Entity) -> Result<ExportStep, NoMemory>
         ensures step { (state : State) (text : List ℕ) → self.old.stage ≡ Stage.Walking → self.old.asked ≡ Some id → IsExporting state text self.old
             → entity_of state.graph id ≡ Some entity.now → IfOk result (IsExportStep state text self.new) }
+        ensures on { IfOk result (GoesOn self.new) }
         ensures nearer { (g : Graph) → self.old.stage ≡ Stage.Walking → has id self.old.left ≡ false → lists g id ≡ true → IfOk result (λ step. steps_behind step self.new g < export_steps self.old g) }
     {
         match self.look(id, entity) {
             Ok(()) => self.go_on(),
             Err(NoMemory) => Err(NoMemory),
+        }
+    }
+
+    /// Takes the asked id's entity, which holds the object.
+    fn take(
+        &mut self,
+        types: &Dictionary,
+        id: u64,
+        entity: &Entity,
+        object: &Object,
+    ) -> Result<ExportStep, NoMemory>
+        requires { IsObjectOf types.now entity.now object.now }
+        ensures step { (state : State) (text : List ℕ) → state.types ≡ types.now → self.old.asked ≡ Some id → IsExporting state text self.old → entity_of state.graph id ≡ Some entity.now
+            → IfOk result (IsExportStep state text self.new) }
+        ensures on { IfOk result (GoesOn self.new) }
+        ensures nearer { (state : State) (text : List ℕ) → self.old.asked ≡ Some id → IsExporting state text self.old → entity_of state.graph id ≡ Some entity.now
+            → IfOk result (λ step. steps_behind step self.new state.graph < export_steps self.old state.graph) }
+    {
+        match self.stage {
+            Stage::Walking => self.walk(id, entity),
+            Stage::Telling => self.tell(types, id, object),
         }
     }
 
@@ -215,6 +240,9 @@ impl Export {
         // Over every right graph that has the given entity: what was told, with what is told now, is what the model says.
         ensures step { (state : State) (text : List ℕ) → state.types ≡ types.now → IsExporting state text self.old → IsGiven state.graph self.old given
             → IfOk result (IsExportStep state text self.new) }
+        // Whether it walks or tells, the form of each entity that was asked for is looked at.
+        ensures broken { IfOk result (λ step. IsBrokenAt types.now (taken_for self.old.asked given) (broken_by_export step)) }
+        ensures asks { IfOk result (IsDueNext self.new) }
         // With the entity that was asked for the end is nearer, and without one no farther.
         ensures nearer { (state : State) (text : List ℕ) → IsExporting state text self.old → is_some self.old.asked ≡ true → is_some given ≡ true → IsGiven state.graph self.old given
             → IfOk result (λ step. steps_behind step self.new state.graph < export_steps self.old state.graph) }
@@ -226,9 +254,10 @@ impl Export {
         let Some(entity) = given else {
             return Ok(ExportStep::Look(id));
         };
-        match self.stage {
-            Stage::Walking => self.walk(id, &entity),
-            Stage::Telling => self.tell(types, id, &entity),
+        match read(self.alloc, types, &entity) {
+            Ok(Some(object)) => self.take(types, id, &entity, &object),
+            Ok(None) => Ok(ExportStep::Broken { id }),
+            Err(NoMemory) => Err(NoMemory),
         }
     }
 }

@@ -33,6 +33,8 @@ pub use telling::{collect, forget, show, tidy};
 #[cfg(test)]
 mod export_tests;
 #[cfg(test)]
+mod fixtures;
+#[cfg(test)]
 mod store_tests;
 #[cfg(test)]
 mod tests;

@@ -1,23 +1,26 @@
 //! Objects that are loaded: where the script begins, and by the line `follow`.
 
-ghost use Rattle.std.specs.Prelude.{◌≡◌, ◌≤◌, ◌<◌, ◌+◌, ℕ, Bool, List, false, true, length, IfOk, OnOk};
+ghost use Rattle.std.specs.Prelude.{◌≡◌, ◌≤◌, ◌<◌, ◌+◌, ℕ, Bool, List, Some, None, false, true, length, IfOk, OnOk};
 ghost use Rattle.graph_model.specs.Graph.{Graph, lists};
 ghost use Rattle.graph_model.specs.Served.{Storage};
 ghost use Rattle.graph_model.specs.declared.entity.Entity.{Entity as AnyEntity};
-ghost use Rattle.type_desc.specs.Root.{root_desc};
-ghost use Rattle.lazy_refs.specs.Mappings.{AreMappings};
+ghost use Rattle.lazy_refs.specs.Mappings.{AreTypedIn};
 ghost use Rattle.lazy_refs.specs.Walks.{loaded_ids};
 ghost use Rattle.object_registry.specs.Registered.{unsaved};
 ghost use Rattle.session_model.specs.Answer.{State, Turn, command_turn, first_instances, follow_turn, fresh, started_turn};
 ghost use Rattle.session_model.specs.Commands.{Command as AnyCommand};
 ghost use Rattle.session_model.specs.Sound.{IsSound};
+ghost use Rattle.session_model.specs.Types.{root_type};
 ghost use Rattle.script_text.specs.Meaning.{meant};
+ghost use Rattle.storer.specs.Gathered.{IsKnown};
 ghost use Rattle.session.specs.Stands.{StandsAt};
+ghost use Rattle.session.specs.Broken.{IsBrokenAt, broken_by, broken_by_loading, taken_for};
 ghost use Rattle.session.specs.Due.{Meets};
 ghost use Rattle.session.specs.Limits.{most_bytes};
-ghost use Rattle.session.specs.LoadSteps.{EndsBy, IsFailed, IsFailure, IsFollowed, IsFollowing, IsLast, TakesAll, TakesStep, last_steps, step_steps};
+ghost use Rattle.session.specs.LoadSteps.{EndsBy, IsFailed, IsFailure, IsFollowed, IsFollowing, IsLast, IsTypedEnd, TakesAll, TakesStep, last_steps, step_steps};
 ghost use Rattle.session.specs.Loads.{GoesOnFollow, IsRead, LoadsFor, TakesEntity};
 ghost use Rattle.session.specs.Namings.{IsUnbound};
+ghost use Rattle.session.specs.Steady.{IsSteadyLoading, IsSteadyOutcome, IsSteadyPurpose, IsSteadyStep, KnowsObjects};
 ghost use Rattle.session.specs.Steps.{outcome_steps, phase_steps, purpose_steps};
 ghost use Rattle.session.specs.declared.outcome.Phase.{Phase as AnyPhase};
 
@@ -48,6 +51,12 @@ fn ids_of(alloc: Global, all: &[(u64, Object)]) -> Result<Ids, NoMemory>
 
 /// Puts the objects in memory, with which the script has begun, and asks the storage to hold their ids.
 fn hold(memory: &mut Memory, all: Loaded, purpose: Purpose) -> Result<Outcome, NoMemory>
+    requires known { KnowsObjects memory.old }
+    requires typed { AreTypedIn memory.old.types all }
+    requires steady { IsSteadyPurpose memory.old purpose }
+    ensures known { OnOk result (KnowsObjects memory.new) }
+    ensures steady { IfOk result (IsSteadyOutcome memory.new) }
+    ensures whole { IfOk result (λ outcome. broken_by outcome ≡ None) }
     ensures meets { (is_next_type : List (List ℕ) → List ℕ → Bool) (storage : Storage) (due : Turn) → TakesAll purpose all memory.old storage due
         → IfOk result (λ outcome. Meets is_next_type outcome memory.new storage due) }
     ensures steps { (g : Graph) → IfOk result (λ outcome. outcome_steps outcome g ≡ purpose_steps purpose g) }
@@ -73,7 +82,13 @@ fn refuse(alloc: Global, step: &LoadStep) -> Result<Outcome, NoMemory>
 
 /// What the last step of a loading comes to.
 fn end(memory: &mut Memory, step: LoadStep, purpose: Purpose) -> Result<Outcome, NoMemory>
-    requires { IsLast step }
+    requires last { IsLast step }
+    requires known { KnowsObjects memory.old }
+    requires typed { IsTypedEnd memory.old.types step }
+    requires steady { IsSteadyPurpose memory.old purpose }
+    ensures known { OnOk result (KnowsObjects memory.new) }
+    ensures steady { IfOk result (IsSteadyOutcome memory.new) }
+    ensures broken { IfOk result (λ outcome. broken_by outcome ≡ broken_by_loading step) }
     ensures meets { (is_next_type : List (List ℕ) → List ℕ → Bool) (storage : Storage) (due : Turn) → EndsBy purpose step memory.old storage due
         → IfOk result (λ outcome. Meets is_next_type outcome memory.new storage due) }
     ensures steps { (g : Graph) → IfOk result (λ outcome. outcome_steps outcome g ≡ last_steps step purpose g) }
@@ -91,6 +106,11 @@ fn take_step(
     step: LoadStep,
     purpose: Purpose,
 ) -> Result<Outcome, NoMemory>
+    requires known { KnowsObjects memory.old }
+    requires steady { IsSteadyStep memory.old loading step purpose }
+    ensures known { OnOk result (KnowsObjects memory.new) }
+    ensures steady { IfOk result (IsSteadyOutcome memory.new) }
+    ensures broken { IfOk result (λ outcome. broken_by outcome ≡ broken_by_loading step) }
     ensures meets { (is_next_type : List (List ℕ) → List ℕ → Bool) (storage : Storage) (due : Turn) → TakesStep purpose loading step memory.old storage due
         → IfOk result (λ outcome. Meets is_next_type outcome memory.new storage due) }
     ensures steps { (g : Graph) → IfOk result (λ outcome. outcome_steps outcome g ≡ step_steps step loading purpose g) }
@@ -103,6 +123,11 @@ fn take_step(
 
 /// Begins to load the id for the purpose.
 fn begin(memory: &mut Memory, id: u64, purpose: Purpose) -> Result<Outcome, NoMemory>
+    requires known { KnowsObjects memory.old }
+    requires steady { IsSteadyPurpose memory.old purpose }
+    ensures known { OnOk result (KnowsObjects memory.new) }
+    ensures steady { IfOk result (IsSteadyOutcome memory.new) }
+    ensures whole { IfOk result (λ outcome. broken_by outcome ≡ None) }
     ensures meets { (is_next_type : List (List ℕ) → List ℕ → Bool) (storage : Storage) (state : State) (due : Turn) → StandsAt memory.old storage state → LoadsFor purpose state id due
         → IfOk result (λ outcome. Meets is_next_type outcome memory.new storage due) }
     ensures few { (g : Graph) → IfOk result (λ outcome. outcome_steps outcome g ≤ length g + purpose_steps purpose g + 1) }
@@ -114,15 +139,21 @@ fn begin(memory: &mut Memory, id: u64, purpose: Purpose) -> Result<Outcome, NoMe
 
 /// Begins a script whose graph has the root: the root and what it leads to are loaded, and then the command comes.
 pub fn load_root(memory: &mut Memory, command: Command) -> Result<Outcome, NoMemory>
+    requires known { KnowsObjects memory.old }
+    requires read { IsRead command }
+    ensures known { OnOk result (KnowsObjects memory.new) }
+    ensures steady { IfOk result (IsSteadyOutcome memory.new) }
+    ensures whole { IfOk result (λ outcome. broken_by outcome ≡ None) }
     ensures meets { (is_next_type : List (List ℕ) → List ℕ → Bool) (storage : Storage) (state : State) → StandsAt memory.old storage state → state.started ≡ false
-        → lists state.graph 1 ≡ true → IsRead command → IfOk result (λ outcome. Meets is_next_type outcome memory.new storage (started_turn most_bytes state (meant command) (first_instances state))) }
+        → lists state.graph 1 ≡ true → IfOk result (λ outcome. Meets is_next_type outcome memory.new storage (started_turn most_bytes state (meant command) (first_instances state))) }
 {
     begin(memory, 1, Purpose::Start(command))
 }
 
 /// A root without a target.
 fn root_object(memory: &Memory) -> Result<Object, NoMemory>
-    ensures { IfOk result (λ root. unsaved root ≡ fresh 1 root_desc) }
+    ensures fresh { IfOk result (λ root. unsaved root ≡ fresh 1 root_type) }
+    ensures known { IfOk result (IsKnown memory.now.types) }
 {
     match memory.types.by_id(1) {
         Some(desc) => Ok(default_object(memory.alloc, 1, desc)?),
@@ -132,6 +163,8 @@ fn root_object(memory: &Memory) -> Result<Object, NoMemory>
 
 /// Begins a script whose graph has no root: an object of the root's type without a target is in memory then.
 pub fn make_root(memory: &mut Memory) -> Result<(), NoMemory>
+    requires { KnowsObjects memory.old }
+    ensures known { OnOk result (KnowsObjects memory.new) }
     ensures stands { (storage : Storage) (state : State) → StandsAt memory.old storage state → state.started ≡ false → lists state.graph 1 ≡ false
         → OnOk result ((begun : State) × StandsAt memory.new storage begun × (begun.started ≡ true)
         × ((command : AnyCommand) → started_turn most_bytes state command (first_instances state) ≡ command_turn most_bytes begun command)) }
@@ -149,7 +182,12 @@ pub fn load_on(
     purpose: Purpose,
     entity: Entity,
 ) -> Result<Outcome, NoMemory>
-    requires mappings { AreMappings memory.old.types memory.old.table loading.mappings }
+    requires known { KnowsObjects memory.old }
+    requires loading { IsSteadyLoading memory.old loading }
+    requires purpose { IsSteadyPurpose memory.old purpose }
+    ensures known { OnOk result (KnowsObjects memory.new) }
+    ensures steady { IfOk result (IsSteadyOutcome memory.new) }
+    ensures broken { IfOk result (λ outcome. IsBrokenAt memory.old.types (taken_for (Some loading.asked) (Some entity)) (broken_by outcome)) }
     ensures meets { (is_next_type : List (List ℕ) → List ℕ → Bool) (storage : Storage) (due : Turn) → TakesEntity purpose loading entity memory.old storage due
         → IfOk result (λ outcome. Meets is_next_type outcome memory.new storage due) }
     ensures nearer { (storage : Storage) (due : Turn) → TakesEntity purpose loading entity memory.old storage due
@@ -178,7 +216,11 @@ fn follow_id(memory: &Memory, name: &Text, member: &Text, new: &Text) -> Result<
 
 /// Binds the name to the id where it has an object, and loads it first where it has none.
 fn bind_or_load(memory: &mut Memory, new: Text, id: u64) -> Result<Outcome, NoMemory>
-    requires { IsUnbound memory.old.registry new }
+    requires known { KnowsObjects memory.old }
+    requires free { IsUnbound memory.old.registry new }
+    ensures known { OnOk result (KnowsObjects memory.new) }
+    ensures steady { IfOk result (IsSteadyOutcome memory.new) }
+    ensures whole { IfOk result (λ outcome. broken_by outcome ≡ None) }
     ensures meets { (is_next_type : List (List ℕ) → List ℕ → Bool) (storage : Storage) (state : State) (due : Turn) → StandsAt memory.old storage state → state.started ≡ true
         → IsFollowed new id state due → IsSound due.state → IfOk result (λ outcome. Meets is_next_type outcome memory.new storage due) }
     ensures few { (g : Graph) → IfOk result (λ outcome. outcome_steps outcome g ≤ length g + 3) }
@@ -199,6 +241,10 @@ pub fn follow(
     member: &Text,
     new: Text,
 ) -> Result<Outcome, NoMemory>
+    requires known { KnowsObjects memory.old }
+    ensures known { OnOk result (KnowsObjects memory.new) }
+    ensures steady { IfOk result (IsSteadyOutcome memory.new) }
+    ensures whole { IfOk result (λ outcome. broken_by outcome ≡ None) }
     ensures meets { (is_next_type : List (List ℕ) → List ℕ → Bool) (storage : Storage) (state : State) → StandsAt memory.old storage state → state.started ≡ true
         → IfOk result (λ outcome. Meets is_next_type outcome memory.new storage (follow_turn state name.now member.now new)) }
     ensures few { (storage : Storage) (state : State) → StandsAt memory.old storage state → IfOk result (λ outcome. outcome_steps outcome storage.graph ≤ length storage.graph + 3) }
@@ -211,7 +257,11 @@ pub fn follow(
 
 /// Binds the name to the id, whose object was loaded.
 pub fn bind_loaded(memory: &mut Memory, new: &Text, id: u64) -> Result<Outcome, NoMemory>
-    requires { (storage : Storage) × (due : Turn) × GoesOnFollow new.now id memory.old storage due }
+    requires known { KnowsObjects memory.old }
+    requires free { IsUnbound memory.old.registry new.now }
+    ensures known { OnOk result (KnowsObjects memory.new) }
+    ensures steady { IfOk result (IsSteadyOutcome memory.new) }
+    ensures whole { IfOk result (λ outcome. broken_by outcome ≡ None) }
     ensures meets { (is_next_type : List (List ℕ) → List ℕ → Bool) (storage : Storage) (due : Turn) → GoesOnFollow new.now id memory.old storage due
         → IfOk result (λ outcome. Meets is_next_type outcome memory.new storage due) }
     ensures short { IfOk result (λ outcome. (g : Graph) → outcome_steps outcome g < 2) }

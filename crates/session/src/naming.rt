@@ -2,14 +2,16 @@
 
 ghost use Rattle.std.specs.Prelude.{◌≡◌, ◌<◌, ◌^◌, ◌∷◌, ℕ, Bool, List, true, length, IfOk, IsSome, MatchResult, OnOk};
 ghost use Rattle.graph_model.specs.Served.{Storage};
-ghost use Rattle.type_dictionary.specs.Latest.{desc_of};
 ghost use Rattle.session_model.specs.Answer.{State, Turn, drop_turn, home_turn, new_turn, pick_turn};
 ghost use Rattle.session_model.specs.Sound.{IsSound};
 ghost use Rattle.object_registry.specs.Bindings.{SameNames, binding};
+ghost use Rattle.storer.specs.Gathered.{IsKnown};
 ghost use Rattle.session.specs.Stands.{StandsAt};
+ghost use Rattle.session.specs.Steady.{IsSteadyOutcome, KnowsObjects};
 ghost use Rattle.session.specs.Due.{Meets};
 ghost use Rattle.session.specs.Steps.{IsShort};
 ghost use Rattle.session.specs.Refusals.{Says};
+ghost use Rattle.session_model.specs.Types.{desc_of};
 ghost use Rattle.session.specs.Namings.{IsFreshObject, IsMaking, IsNaming, IsNotOpen, IsOpen, IsTargetAt, IsUnbound, target_of_root};
 
 use crate::answers::{line, numbered_line, outcome_of};
@@ -47,7 +49,8 @@ pub fn bind_found(
     judged: Result<u64, Stop>,
 ) -> Result<Bytes, Stop>
     requires { IfOk judged (λ _. IsUnbound memory.old.registry name.now) }
-    ensures { (storage : Storage) (state : State) (turn : Turn) → StandsAt memory.old storage state → IsNaming name.now judged state turn → IsSound turn.state
+    ensures known { KnowsObjects memory.old → KnowsObjects memory.new }
+    ensures says { (storage : Storage) (state : State) (turn : Turn) → StandsAt memory.old storage state → IsNaming name.now judged state turn → IsSound turn.state
         → Says result memory.new storage turn }
 {
     match judged {
@@ -82,6 +85,9 @@ fn home_id(memory: &Memory, name: &Text) -> Result<u64, Stop>
 
 /// `home NAME`: binds the name to the root's target.
 pub fn home(memory: &mut Memory, name: &Text) -> Result<Outcome, NoMemory>
+    requires known { KnowsObjects memory.old }
+    ensures known { OnOk result (KnowsObjects memory.new) }
+    ensures steady { IfOk result (IsSteadyOutcome memory.new) }
     ensures meets { (is_next_type : List (List ℕ) → List ℕ → Bool) (storage : Storage) (state : State) → StandsAt memory.old storage state → state.started ≡ true
         → IfOk result (λ outcome. Meets is_next_type outcome memory.new storage (home_turn state name.now)) }
     ensures short { IfOk result IsShort }
@@ -133,6 +139,9 @@ pub fn pick(
     index: &Index,
     new: &Text,
 ) -> Result<Outcome, NoMemory>
+    requires known { KnowsObjects memory.old }
+    ensures known { OnOk result (KnowsObjects memory.new) }
+    ensures steady { IfOk result (IsSteadyOutcome memory.new) }
     ensures meets { (is_next_type : List (List ℕ) → List ℕ → Bool) (storage : Storage) (state : State) → StandsAt memory.old storage state → state.started ≡ true
         → IfOk result (λ outcome. Meets is_next_type outcome memory.new storage (pick_turn state name.now member.now index.now new.now)) }
     ensures short { IfOk result IsShort }
@@ -144,7 +153,8 @@ pub fn pick(
 }
 
 fn unbind(memory: &mut Memory, name: &Text) -> Result<Bytes, Stop>
-    ensures { (storage : Storage) (state : State) → StandsAt memory.old storage state → Says result memory.new storage (drop_turn state name.now) }
+    ensures known { KnowsObjects memory.old → KnowsObjects memory.new }
+    ensures says { (storage : Storage) (state : State) → StandsAt memory.old storage state → Says result memory.new storage (drop_turn state name.now) }
 {
     if is_root_name(name) {
         return Err(Stop::Refused(Refusal::Reserved));
@@ -160,6 +170,9 @@ fn unbind(memory: &mut Memory, name: &Text) -> Result<Bytes, Stop>
 
 /// `drop NAME`: leaves the name unbound.
 pub fn drop_name(memory: &mut Memory, name: &Text) -> Result<Outcome, NoMemory>
+    requires known { KnowsObjects memory.old }
+    ensures known { OnOk result (KnowsObjects memory.new) }
+    ensures steady { IfOk result (IsSteadyOutcome memory.new) }
     ensures meets { (is_next_type : List (List ℕ) → List ℕ → Bool) (storage : Storage) (state : State) → StandsAt memory.old storage state → state.started ≡ true
         → IfOk result (λ outcome. Meets is_next_type outcome memory.new storage (drop_turn state name.now)) }
     ensures short { IfOk result IsShort }
@@ -185,7 +198,8 @@ fn may_make(memory: &Memory, name: &Text, type_name: &Text) -> Result<(), Stop>
 /// An object of the type, each member with its default.
 fn fresh_object(memory: &Memory, type_id: u64) -> Result<Object, Stop>
     requires { IsSome (desc_of memory.now.types type_id) }
-    ensures { IsFreshObject memory.now.types type_id result }
+    ensures fresh { IsFreshObject memory.now.types type_id result }
+    ensures typed { IfOk result (IsKnown memory.now.types) }
 {
     match memory.types.by_id(type_id) {
         Some(desc) => Ok(default_object(memory.alloc, type_id, desc)?),
@@ -197,6 +211,7 @@ fn fresh_object(memory: &Memory, type_id: u64) -> Result<Object, Stop>
 fn new_object(memory: &Memory, name: &Text, type_name: &Text) -> Result<Object, Stop>
     ensures free { IfOk result (λ _. IsUnbound memory.now.registry name.now) }
     ensures room { IfOk result (λ _. memory.now.next_id < 2 ^ 48) }
+    ensures typed { IfOk result (IsKnown memory.now.types) }
     ensures judged { (storage : Storage) (state : State) → StandsAt memory.now storage state → IsMaking name.now result state (new_turn state name.now type_name.now) }
 {
     may_make(memory, name, type_name)?;
@@ -213,7 +228,9 @@ fn new_object(memory: &Memory, name: &Text, type_name: &Text) -> Result<Object, 
 fn put_object(memory: &mut Memory, name: &Text, judged: Result<Object, Stop>) -> Result<Bytes, Stop>
     requires free { IfOk judged (λ _. IsUnbound memory.old.registry name.now) }
     requires room { IfOk judged (λ _. memory.old.next_id < 2 ^ 48) }
-    ensures { (storage : Storage) (state : State) (turn : Turn) → StandsAt memory.old storage state → IsMaking name.now judged state turn → IsSound turn.state
+    requires typed { IfOk judged (IsKnown memory.old.types) }
+    ensures known { KnowsObjects memory.old → KnowsObjects memory.new }
+    ensures says { (storage : Storage) (state : State) (turn : Turn) → StandsAt memory.old storage state → IsMaking name.now judged state turn → IsSound turn.state
         → Says result memory.new storage turn }
 {
     match judged {
@@ -230,6 +247,9 @@ fn put_object(memory: &mut Memory, name: &Text, judged: Result<Object, Stop>) ->
 
 /// `new NAME TYPE`: binds the name to a new object of the latest type of that name, each member with its default.
 pub fn new(memory: &mut Memory, name: &Text, type_name: &Text) -> Result<Outcome, NoMemory>
+    requires known { KnowsObjects memory.old }
+    ensures known { OnOk result (KnowsObjects memory.new) }
+    ensures steady { IfOk result (IsSteadyOutcome memory.new) }
     ensures meets { (is_next_type : List (List ℕ) → List ℕ → Bool) (storage : Storage) (state : State) → StandsAt memory.old storage state → state.started ≡ true
         → IfOk result (λ outcome. Meets is_next_type outcome memory.new storage (new_turn state name.now type_name.now)) }
     ensures short { IfOk result IsShort }

@@ -13,6 +13,7 @@ ghost use Rattle.session.specs.Stands.{StandsAt};
 ghost use Rattle.session.specs.Due.{Meets};
 ghost use Rattle.session.specs.Pairings.{MayBePaired, MayNotBePaired, names_root};
 ghost use Rattle.session.specs.Refusals.{Says};
+ghost use Rattle.session.specs.Steady.{IsSteadyOutcome, KnowsObjects};
 ghost use Rattle.session.specs.Steps.{IsShort};
 
 use crate::answers::{line, outcome_of};
@@ -136,7 +137,8 @@ fn add(table: &mut RefactorTable, old: RefName, new: RefName) -> Result<(), NoMe
 /// Adds the pair, which is answered `ok`.
 fn pair(memory: &mut Memory, old: RefName, new: RefName) -> Result<Bytes, Stop>
     requires { AreOfOneForm old new }
-    ensures { (storage : Storage) (state : State) → StandsAt memory.old storage state → Says result memory.new storage (refactor_turn state old new) }
+    ensures known { KnowsObjects memory.old → KnowsObjects memory.new }
+    ensures says { (storage : Storage) (state : State) → StandsAt memory.old storage state → Says result memory.new storage (refactor_turn state old new) }
 {
     match may_pair(memory, &old, &new) {
         Ok(()) => {
@@ -149,7 +151,10 @@ fn pair(memory: &mut Memory, old: RefName, new: RefName) -> Result<Bytes, Stop>
 
 /// `refactor OLD NEW`: objects of the old type become such of the new one where they are loaded, or a member's value comes from the old member.
 pub fn refactor(memory: &mut Memory, old: RefName, new: RefName) -> Result<Outcome, NoMemory>
-    requires { AreOfOneForm old new }
+    requires one_form { AreOfOneForm old new }
+    requires known { KnowsObjects memory.old }
+    ensures known { OnOk result (KnowsObjects memory.new) }
+    ensures steady { IfOk result (IsSteadyOutcome memory.new) }
     ensures meets { (is_next_type : List (List ℕ) → List ℕ → Bool) (storage : Storage) (state : State) → StandsAt memory.old storage state
         → IfOk result (λ outcome. Meets is_next_type outcome memory.new storage (refactor_turn state old new)) }
     ensures short { IfOk result IsShort }

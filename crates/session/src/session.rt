@@ -1,15 +1,20 @@
 //! A session: it takes the lines of a script, and gives what is to be asked of a storage and what is to be printed.
 
-ghost use Rattle.std.specs.Prelude.{◌≡◌, ◌≤◌, ◌<◌, ◌^◌, ℕ, Bool, List, [], length, IfOk};
+ghost use Rattle.std.specs.Prelude.{◌≡◌, ◌≤◌, ◌<◌, ◌^◌, ℕ, Bool, List, [], true, Some, None, length, IfOk, OnOk};
 ghost use Rattle.graph_model.specs.Graph.{Graph, lists};
 ghost use Rattle.graph_model.specs.Served.{SameIds, Storage};
-ghost use Rattle.type_dictionary.specs.Records.{records_from};
+ghost use Rattle.graph_model.specs.declared.ask.Ask.{Ask as AnyAsk};
 ghost use Rattle.session_model.specs.Answer.{Turn as TurnDue, opened};
+ghost use Rattle.session_model.specs.Commands.{Tidy, command_of};
 ghost use Rattle.session_model.specs.Sound.{AreTypes, IsRightGraph};
-ghost use Rattle.session.specs.Dealing.{AfterPrint, AfterReply, AwaitsLine, BeginsLine, ComesNearer, Gives, MayGive};
+ghost use Rattle.session.specs.Broken.{IsBrokenWhere, broken_at, broken_by};
+ghost use Rattle.session.specs.Dealing.{AfterPrint, AfterReply, BeginsLine, ComesNearer, Gives, MayGive};
 ghost use Rattle.session.specs.Due.{Meets};
-ghost use Rattle.session.specs.Stands.{Admits, StandsAt};
+ghost use Rattle.session.specs.Fitting.{Fits, FitsBehind};
+ghost use Rattle.session.specs.Stands.{Admits, StandsAt, records_from};
+ghost use Rattle.session.specs.Steady.{IsAskOf, IsSteady, IsSteadyOutcome, IsSteadyWaiting};
 ghost use Rattle.session.specs.Steps.{outcome_steps, steps_left};
+ghost use Rattle.session.specs.declared.session.Given.{Given as AnyGiven};
 
 use crate::export_line::export_behind;
 use crate::memory::Memory;
@@ -60,7 +65,9 @@ impl Session {
         next_id: u64,
         rooted: bool,
     ) -> Result<Session, NoMemory>
-        ensures waits { IfOk result (λ session. AwaitsLine session.waiting) }
+        // A line fits.
+        ensures fits { IfOk result (λ session. (text : List ℕ) → Fits (AnyGiven.Line text) session.waiting) }
+        ensures steady { IfOk result IsSteady }
         // Over every storage with these types, and a right graph, the script stands at its start.
         ensures stands { (storage : Storage) → AreTypes types → 1024 ≤ next_id → next_id ≤ 2 ^ 48 → IsRightGraph types next_id storage.graph → rooted ≡ lists storage.graph 1
             → SameIds storage.held [] → storage.next_id ≤ next_id → storage.types ≡ records_from 16 types
@@ -84,6 +91,11 @@ impl Session {
 
     /// Waits for what comes behind the outcome.
     fn give(&mut self, outcome: Outcome) -> Turn
+        ensures memory { self.new.memory ≡ self.old.memory }
+        ensures steady { IsSteadyOutcome self.old.memory outcome → IsSteadyWaiting self.new.memory self.new.waiting }
+        ensures fits { IsSteadyOutcome self.old.memory outcome → FitsBehind result self.new.waiting }
+        ensures broken { broken_at result ≡ broken_by outcome }
+        ensures asks { (ask : AnyAsk) → IsAskOf ask outcome → result ≡ Turn.Ask ask }
         ensures gives { (is_next_type : List (List ℕ) → List ℕ → Bool) (storage : Storage) (due : TurnDue) → Meets is_next_type outcome self.old.memory storage due → Gives is_next_type result self.new storage due }
         ensures steps { (g : Graph) → steps_left self.new.waiting g ≡ outcome_steps outcome g }
     {
@@ -108,8 +120,12 @@ impl Session {
     }
 
     fn line_given(&mut self, text: Bytes) -> Result<Turn, NoMemory>
-        requires { (storage : Storage) × (due : TurnDue) × BeginsLine text self.old.memory storage due }
-        ensures { (is_next_type : List (List ℕ) → List ℕ → Bool) (storage : Storage) (due : TurnDue) → Admits is_next_type → BeginsLine text self.old.memory storage due
+        requires { IsSteady self.old }
+        ensures steady { IfOk result (λ _. IsSteady self.new) }
+        ensures fits { IfOk result (λ turn. FitsBehind turn self.new.waiting) }
+        ensures whole { IfOk result (λ turn. broken_at turn ≡ None) }
+        ensures tidies { command_of text ≡ Some Tidy → self.old.memory.started ≡ true → IfOk result (λ turn. turn ≡ Turn.Ask AnyAsk.Tidy) }
+        ensures gives { (is_next_type : List (List ℕ) → List ℕ → Bool) (storage : Storage) (due : TurnDue) → Admits is_next_type → BeginsLine text self.old.memory storage due
             → IfOk result (λ turn. Gives is_next_type turn self.new storage due) }
     {
         let outcome = take_line(&mut self.memory, &text)?;
@@ -117,7 +133,11 @@ impl Session {
     }
 
     fn reply_given(&mut self, reply: Reply) -> Result<Turn, NoMemory>
-        requires { (storage : Storage) × (due : TurnDue) × AfterReply self.old.waiting reply self.old.memory storage due }
+        requires steady { IsSteady self.old }
+        requires fits { Fits (AnyGiven.Reply reply) self.old.waiting }
+        ensures steady { IfOk result (λ _. IsSteady self.new) }
+        ensures fits { IfOk result (λ turn. FitsBehind turn self.new.waiting) }
+        ensures broken { IfOk result (IsBrokenWhere (AnyGiven.Reply reply) self.old) }
         ensures gives { (is_next_type : List (List ℕ) → List ℕ → Bool) (storage : Storage) (due : TurnDue) → Admits is_next_type → AfterReply self.old.waiting reply self.old.memory storage due
             → IfOk result (λ turn. Gives is_next_type turn self.new storage due) }
         ensures nearer { (storage : Storage) (due : TurnDue) → AfterReply self.old.waiting reply self.old.memory storage due
@@ -133,7 +153,11 @@ impl Session {
     }
 
     fn printed(&mut self) -> Result<Turn, NoMemory>
-        requires { (storage : Storage) × (due : TurnDue) × AfterPrint self.old.waiting self.old.memory storage due }
+        requires steady { IsSteady self.old }
+        requires fits { Fits AnyGiven.Printed self.old.waiting }
+        ensures steady { IfOk result (λ _. IsSteady self.new) }
+        ensures fits { IfOk result (λ turn. FitsBehind turn self.new.waiting) }
+        ensures whole { IfOk result (λ turn. broken_at turn ≡ None) }
         ensures gives { (is_next_type : List (List ℕ) → List ℕ → Bool) (storage : Storage) (due : TurnDue) → AfterPrint self.old.waiting self.old.memory storage due
             → IfOk result (λ turn. Gives is_next_type turn self.new storage due) }
         ensures nearer { (storage : Storage) (due : TurnDue) → AfterPrint self.old.waiting self.old.memory storage due
@@ -150,9 +174,16 @@ impl Session {
     }
 
     /// Takes what was waited for, and gives what comes next: at first and after `Done` a line is waited for, after `Ask` the reply, and after
-    /// `Print` that it was printed. After `NoMemory` or `Broken` the session is given up.
+    /// `Print` that it was printed. Of what a storage replies nothing is taken on trust: an entity that has not its type's form gives `Broken`.
+    /// After `NoMemory` or `Broken` the session is given up.
     pub fn next(&mut self, given: Given) -> Result<Turn, NoMemory>
-        requires waited { (storage : Storage) × (due : TurnDue) × MayGive given self.old storage due }
+        requires steady { IsSteady self.old }
+        requires fits { Fits given self.old.waiting }
+        ensures steady { IfOk result (λ _. IsSteady self.new) }
+        ensures fits { IfOk result (λ turn. FitsBehind turn self.new.waiting) }
+        ensures broken { IfOk result (IsBrokenWhere given self.old) }
+        // Whatever files it has, once the script has begun a storage is asked to tidy.
+        ensures tidies { (text : List ℕ) → given ≡ Given.Line text → command_of text ≡ Some Tidy → self.old.memory.started ≡ true → IfOk result (λ turn. turn ≡ Turn.Ask AnyAsk.Tidy) }
         // Whatever storage it is that stands there: what may be asked is asked, and what is due is printed.
         ensures gives { (is_next_type : List (List ℕ) → List ℕ → Bool) (storage : Storage) (due : TurnDue) → Admits is_next_type → MayGive given self.old storage due
             → IfOk result (λ turn. Gives is_next_type turn self.new storage due) }

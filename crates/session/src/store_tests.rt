@@ -1,44 +1,26 @@
 //! Examples of lines that store.
 
-ghost use Rattle.std.specs.Prelude.{[], IfOk, OnOk};
-ghost use Rattle.storer.specs.Gathered.{AreKnown};
+ghost use Rattle.std.specs.Prelude.{IfOk, OnOk};
+ghost use Rattle.session.specs.Steady.{KnowsObjects};
 
+use crate::fixtures::{begun, put};
 use crate::{Memory, Outcome, Phase, store, store_all};
-use entity_form::{Object, Value, Values};
 use graph_model::{Ask, NoMemory};
 use object_registry::Registry;
-use refactor_table::RefactorTable;
 use std::alloc::Global;
 use std::test::Fail;
 use type_desc::Text;
 use type_dictionary::Dictionary;
 
-/// Puts an object of the built-in type in, which refers to the target.
-fn put(alloc: Global, registry: &mut Registry, id: u64, target: u64) -> Result<(), NoMemory>
-    requires { AreKnown [] registry.old.instances }
-    ensures { OnOk result (AreKnown [] registry.new.instances) }
-{
-    let values = Values::new(vec![in alloc; Value::Ref(target)]?);
-    registry.put_new(id, Object { type_id: 1, values })
-}
-
 /// A session that has begun, with the root and an object that it refers to.
-fn begun(alloc: Global) -> Result<Memory, NoMemory>
-    ensures { IfOk result (λ memory. AreKnown memory.types memory.registry.instances) }
+fn begun_with_two(alloc: Global) -> Result<Memory, NoMemory>
+    ensures { IfOk result KnowsObjects }
 {
     let types = Dictionary::new(alloc);
     let mut registry = Registry::new(alloc)?;
-    put(alloc, &mut registry, 1, 1024)?;
-    put(alloc, &mut registry, 1024, 0)?;
-    Ok(Memory {
-        alloc,
-        types,
-        table: RefactorTable::new(alloc),
-        registry,
-        next_id: 1025,
-        rooted: false,
-        started: true,
-    })
+    put(alloc, &types, &mut registry, 1, 1024)?;
+    put(alloc, &types, &mut registry, 1024, 0)?;
+    Ok(begun(alloc, types, registry, 1025))
 }
 
 fn asks_for(outcome: &Outcome, ids: &[u64]) -> bool {
@@ -53,18 +35,39 @@ fn asks_for(outcome: &Outcome, ids: &[u64]) -> bool {
     }
 }
 
+/// Whether `store NAME` asks the storage to store these ids.
+fn stores(memory: &mut Memory, name: &str, ids: &[u64]) -> Result<bool, Fail>
+    requires { KnowsObjects memory.old }
+    ensures { OnOk result (KnowsObjects memory.new) }
+{
+    let outcome = store(memory, &Text::new(memory.alloc, name)?)?;
+    Ok(asks_for(&outcome, ids))
+}
+
+/// Whether `store-all NAME` asks the storage to store these ids.
+fn stores_all(memory: &mut Memory, name: &str, ids: &[u64]) -> Result<bool, Fail>
+    requires { KnowsObjects memory.old }
+    ensures { OnOk result (KnowsObjects memory.new) }
+{
+    let outcome = store_all(memory, &Text::new(memory.alloc, name)?)?;
+    Ok(asks_for(&outcome, ids))
+}
+
+/// Whether `store NAME` is answered at once.
+fn is_answered(memory: &mut Memory, name: &str) -> Result<bool, Fail>
+    requires { KnowsObjects memory.old }
+    ensures { OnOk result (KnowsObjects memory.new) }
+{
+    let outcome = store(memory, &Text::new(memory.alloc, name)?)?;
+    Ok(matches!(&outcome, Outcome::Answer(_)))
+}
+
 #[test]
 fn the_root_is_stored(rt: HostRuntime) -> Result<(), Fail> {
-    let alloc = rt.alloc();
-    let mut memory = begun(alloc)?;
-    let root = Text::new(alloc, "root")?;
-    let first = store(&mut memory, &root)?;
-    assert!(rt; asks_for(&first, &[1, 1024]));
-    let second = store(&mut memory, &root)?;
-    assert!(rt; asks_for(&second, &[1]));
-    let all = store_all(&mut memory, &root)?;
-    assert!(rt; asks_for(&all, &[1, 1024]));
-    let unbound = store(&mut memory, &Text::new(alloc, "p")?)?;
-    assert!(rt; matches!(&unbound, Outcome::Answer(_)));
+    let mut memory = begun_with_two(rt.alloc())?;
+    assert!(rt; stores(&mut memory, "root", &[1, 1024])?);
+    assert!(rt; stores(&mut memory, "root", &[1])?);
+    assert!(rt; stores_all(&mut memory, "root", &[1, 1024])?);
+    assert!(rt; is_answered(&mut memory, "p")?);
     Ok(())
 }

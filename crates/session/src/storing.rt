@@ -1,14 +1,14 @@
 //! The lines that store: `store` and `store-all`.
 
-ghost use Rattle.std.specs.Prelude.{◌≡◌, ℕ, Bool, List, true, false, IfErr, IfOk};
+ghost use Rattle.std.specs.Prelude.{◌≡◌, ℕ, Bool, List, true, false, IfErr, IfOk, OnOk};
 ghost use Rattle.graph_model.specs.Graph.{ids};
 ghost use Rattle.graph_model.specs.Served.{Storage};
 ghost use Rattle.session_model.specs.Answer.{State, are_too_big, gathered_records, store_turn};
 ghost use Rattle.session_model.specs.Instances.{gathered_eagerly, gathered_lazily};
 ghost use Rattle.storer.specs.Faults.{IsRefused};
-ghost use Rattle.storer.specs.Gathered.{AreKnown};
 ghost use Rattle.session.specs.Stands.{StandsAt};
 ghost use Rattle.session.specs.Due.{Meets};
+ghost use Rattle.session.specs.Steady.{IsSteadyOutcome, KnowsObjects};
 ghost use Rattle.session.specs.Steps.{IsShort};
 ghost use Rattle.session.specs.Limits.{most_bytes};
 ghost use Rattle.session.specs.StoreAsks.{Gathers, IsGathered, gathered_by};
@@ -36,7 +36,7 @@ pub enum Storer {
 }
 
 fn gather_from(memory: &Memory, storer: Storer, start: u64) -> Result<StoreOp, GatherFault>
-    requires { AreKnown memory.now.types memory.now.registry.instances }
+    requires { KnowsObjects memory.now }
     ensures records { IfOk result (λ op. op.records ≡ gathered_records memory.now.registry.instances (gathered_by storer memory.now.registry.instances start)) }
     ensures next { IfOk result (λ op. op.next_id ≡ memory.now.next_id) }
     ensures fits { IfOk result (λ op. are_too_big most_bytes op.records ≡ false) }
@@ -64,7 +64,7 @@ fn gather_from(memory: &Memory, storer: Storer, start: u64) -> Result<StoreOp, G
 
 /// What is to be stored with the object of the name: `NoName`, then `TooBig`.
 fn gather(memory: &Memory, name: &Text, storer: Storer) -> Result<StoreOp, Stop>
-    requires { AreKnown memory.now.types memory.now.registry.instances }
+    requires { KnowsObjects memory.now }
     ensures { IsGathered storer memory.now name.now result }
 {
     let Some(start) = memory.registry.id_of(name) else {
@@ -91,7 +91,8 @@ fn ids_of(alloc: Global, records: &[Record]) -> Result<Ids, NoMemory>
 
 /// Takes what was gathered as stored, and asks the storage to store it.
 fn ask_to_store(memory: &mut Memory, op: StoreOp) -> Result<Outcome, NoMemory>
-    ensures known { AreKnown memory.old.types memory.old.registry.instances → AreKnown memory.new.types memory.new.registry.instances }
+    ensures known { KnowsObjects memory.old → KnowsObjects memory.new }
+    ensures steady { IfOk result (IsSteadyOutcome memory.new) }
     ensures meets { (is_next_type : List (List ℕ) → List ℕ → Bool) (storer : AnyStorer) (name : List ℕ) (storage : Storage) (state : State) → Gathers storer memory.old name op
         → StandsAt memory.old storage state → state.started ≡ true → IfOk result (λ outcome. Meets is_next_type outcome memory.new storage (store_turn most_bytes state name (gathered_by storer))) }
     ensures short { IfOk result IsShort }
@@ -103,8 +104,9 @@ fn ask_to_store(memory: &mut Memory, op: StoreOp) -> Result<Outcome, NoMemory>
 }
 
 fn store_by(memory: &mut Memory, name: &Text, storer: Storer) -> Result<Outcome, NoMemory>
-    requires { AreKnown memory.old.types memory.old.registry.instances }
-    ensures known { AreKnown memory.new.types memory.new.registry.instances }
+    requires known { KnowsObjects memory.old }
+    ensures known { OnOk result (KnowsObjects memory.new) }
+    ensures steady { IfOk result (IsSteadyOutcome memory.new) }
     ensures meets { (is_next_type : List (List ℕ) → List ℕ → Bool) (storage : Storage) (state : State) → StandsAt memory.old storage state → state.started ≡ true
         → IfOk result (λ outcome. Meets is_next_type outcome memory.new storage (store_turn most_bytes state name.now (gathered_by storer))) }
     ensures short { IfOk result IsShort }
@@ -115,11 +117,11 @@ fn store_by(memory: &mut Memory, name: &Text, storer: Storer) -> Result<Outcome,
     }
 }
 
-/// `store NAME`: stores the object, and from each stored object every one that it names and that was never stored. The types of all objects in
-/// memory are known, and stay so.
+/// `store NAME`: stores the object, and from each stored object every one that it names and that was never stored.
 pub fn store(memory: &mut Memory, name: &Text) -> Result<Outcome, NoMemory>
-    requires known { AreKnown memory.old.types memory.old.registry.instances }
-    ensures known { AreKnown memory.new.types memory.new.registry.instances }
+    requires known { KnowsObjects memory.old }
+    ensures known { OnOk result (KnowsObjects memory.new) }
+    ensures steady { IfOk result (IsSteadyOutcome memory.new) }
     ensures meets { (is_next_type : List (List ℕ) → List ℕ → Bool) (storage : Storage) (state : State) → StandsAt memory.old storage state → state.started ≡ true
         → IfOk result (λ outcome. Meets is_next_type outcome memory.new storage (store_turn most_bytes state name.now gathered_lazily)) }
     ensures short { IfOk result IsShort }
@@ -127,11 +129,11 @@ pub fn store(memory: &mut Memory, name: &Text) -> Result<Outcome, NoMemory>
     store_by(memory, name, Storer::Lazy)
 }
 
-/// `store-all NAME`: stores the object, and from each stored object every one in memory that it names. The types of all objects in memory are
-/// known, and stay so.
+/// `store-all NAME`: stores the object, and from each stored object every one in memory that it names.
 pub fn store_all(memory: &mut Memory, name: &Text) -> Result<Outcome, NoMemory>
-    requires known { AreKnown memory.old.types memory.old.registry.instances }
-    ensures known { AreKnown memory.new.types memory.new.registry.instances }
+    requires known { KnowsObjects memory.old }
+    ensures known { OnOk result (KnowsObjects memory.new) }
+    ensures steady { IfOk result (IsSteadyOutcome memory.new) }
     ensures meets { (is_next_type : List (List ℕ) → List ℕ → Bool) (storage : Storage) (state : State) → StandsAt memory.old storage state → state.started ≡ true
         → IfOk result (λ outcome. Meets is_next_type outcome memory.new storage (store_turn most_bytes state name.now gathered_eagerly)) }
     ensures short { IfOk result IsShort }

@@ -1,13 +1,18 @@
 //! What a line, and the reply to what was asked, come to.
 
-ghost use Rattle.std.specs.Prelude.{◌≡◌, ◌<◌, ℕ, Bool, List, IfOk};
+ghost use Rattle.std.specs.Prelude.{◌≡◌, ◌<◌, ℕ, Bool, List, true, Some, None, IfOk, OnOk};
 ghost use Rattle.graph_model.specs.Graph.{Graph};
 ghost use Rattle.graph_model.specs.Served.{Storage};
-ghost use Rattle.session_model.specs.Answer.{State, Turn};
+ghost use Rattle.graph_model.specs.declared.ask.Ask.{Ask as AnyAsk};
+ghost use Rattle.session_model.specs.Answer.{Turn};
+ghost use Rattle.session_model.specs.Commands.{Tidy, command_of};
+ghost use Rattle.session.specs.Broken.{IsBrokenAt, asked_in, broken_by, entity_in, taken_for};
 ghost use Rattle.session.specs.Dealing.{BeginsLine};
 ghost use Rattle.session.specs.Due.{Meets, Replied, stored_text};
+ghost use Rattle.session.specs.Fitting.{TakesReply};
 ghost use Rattle.session.specs.Loads.{GoesOn};
-ghost use Rattle.session.specs.Stands.{Admits, StandsAt};
+ghost use Rattle.session.specs.Stands.{Admits};
+ghost use Rattle.session.specs.Steady.{IsAskOf, IsSteadyLoading, IsSteadyOutcome, IsSteadyPhase, IsSteadyPurpose, KnowsObjects};
 ghost use Rattle.session.specs.Steps.{outcome_steps, phase_steps, purpose_steps};
 ghost use Rattle.session.specs.declared.memory.Memory.{Memory as AnyMemory};
 ghost use Rattle.session.specs.declared.outcome.Phase.{Phase as AnyPhase};
@@ -27,8 +32,12 @@ use std::alloc::Global;
 
 /// What a line of the script comes to.
 pub fn take_line(memory: &mut Memory, text: &Bytes) -> Result<Outcome, NoMemory>
-    requires { (storage : Storage) × (state : State) × StandsAt memory.old storage state }
-    ensures { (is_next_type : List (List ℕ) → List ℕ → Bool) (storage : Storage) (due : Turn) → Admits is_next_type → BeginsLine text.now memory.old storage due
+    requires known { KnowsObjects memory.old }
+    ensures known { OnOk result (KnowsObjects memory.new) }
+    ensures steady { IfOk result (IsSteadyOutcome memory.new) }
+    ensures whole { IfOk result (λ outcome. broken_by outcome ≡ None) }
+    ensures tidies { command_of text.now ≡ Some Tidy → memory.old.started ≡ true → IfOk result (IsAskOf AnyAsk.Tidy) }
+    ensures meets { (is_next_type : List (List ℕ) → List ℕ → Bool) (storage : Storage) (due : Turn) → Admits is_next_type → BeginsLine text.now memory.old storage due
         → IfOk result (λ outcome. Meets is_next_type outcome memory.new storage due) }
 {
     match read_line(memory.alloc, text.as_slice()) {
@@ -49,7 +58,9 @@ fn stored_line(alloc: Global, number: u64, count: u64) -> Result<Bytes, NoMemory
 }
 
 fn take_stored(alloc: Global, count: u64, reply: Reply) -> Result<Outcome, NoMemory>
-    requires { (memory : AnyMemory) × (storage : Storage) × (due : Turn) × Replied (AnyPhase.Storing count) reply memory storage due }
+    requires { TakesReply (AnyPhase.Storing count) reply }
+    ensures steady { (memory : AnyMemory) → IfOk result (IsSteadyOutcome memory) }
+    ensures whole { IfOk result (λ outcome. broken_by outcome ≡ None) }
     ensures meets { (is_next_type : List (List ℕ) → List ℕ → Bool) (memory : AnyMemory) (storage : Storage) (due : Turn) → Replied (AnyPhase.Storing count) reply memory storage due
         → IfOk result (λ outcome. Meets is_next_type outcome memory storage due) }
     ensures few { (g : Graph) → IfOk result (λ outcome. outcome_steps outcome g < 2) }
@@ -61,7 +72,9 @@ fn take_stored(alloc: Global, count: u64, reply: Reply) -> Result<Outcome, NoMem
 }
 
 fn take_count(alloc: Global, reply: Reply) -> Result<Outcome, NoMemory>
-    requires { (memory : AnyMemory) × (storage : Storage) × (due : Turn) × Replied AnyPhase.Collecting reply memory storage due }
+    requires { TakesReply AnyPhase.Collecting reply }
+    ensures steady { (memory : AnyMemory) → IfOk result (IsSteadyOutcome memory) }
+    ensures whole { IfOk result (λ outcome. broken_by outcome ≡ None) }
     ensures meets { (is_next_type : List (List ℕ) → List ℕ → Bool) (memory : AnyMemory) (storage : Storage) (due : Turn) → Replied AnyPhase.Collecting reply memory storage due
         → IfOk result (λ outcome. Meets is_next_type outcome memory storage due) }
     ensures few { (g : Graph) → IfOk result (λ outcome. outcome_steps outcome g < 2) }
@@ -78,7 +91,13 @@ fn take_loaded(
     purpose: Purpose,
     reply: Reply,
 ) -> Result<Outcome, NoMemory>
-    requires { (storage : Storage) × (due : Turn) × Replied (AnyPhase.Looking loading purpose) reply memory.old storage due }
+    requires takes { TakesReply (AnyPhase.Looking loading purpose) reply }
+    requires known { KnowsObjects memory.old }
+    requires loading { IsSteadyLoading memory.old loading }
+    requires purpose { IsSteadyPurpose memory.old purpose }
+    ensures known { OnOk result (KnowsObjects memory.new) }
+    ensures steady { IfOk result (IsSteadyOutcome memory.new) }
+    ensures broken { IfOk result (λ outcome. IsBrokenAt memory.old.types (taken_for (Some loading.asked) (entity_in reply)) (broken_by outcome)) }
     ensures meets { (is_next_type : List (List ℕ) → List ℕ → Bool) (storage : Storage) (due : Turn) → Replied (AnyPhase.Looking loading purpose) reply memory.old storage due
         → IfOk result (λ outcome. Meets is_next_type outcome memory.new storage due) }
     ensures nearer { (storage : Storage) (due : Turn) → Replied (AnyPhase.Looking loading purpose) reply memory.old storage due
@@ -92,7 +111,11 @@ fn take_loaded(
 
 /// The objects are in memory, and the storage holds them.
 fn go_on(memory: &mut Memory, purpose: Purpose) -> Result<Outcome, NoMemory>
-    requires { (storage : Storage) × (due : Turn) × GoesOn purpose memory.old storage due }
+    requires known { KnowsObjects memory.old }
+    requires purpose { IsSteadyPurpose memory.old purpose }
+    ensures known { OnOk result (KnowsObjects memory.new) }
+    ensures steady { IfOk result (IsSteadyOutcome memory.new) }
+    ensures whole { IfOk result (λ outcome. broken_by outcome ≡ None) }
     ensures meets { (is_next_type : List (List ℕ) → List ℕ → Bool) (storage : Storage) (due : Turn) → Admits is_next_type → GoesOn purpose memory.old storage due
         → IfOk result (λ outcome. Meets is_next_type outcome memory.new storage due) }
     ensures nearer { (storage : Storage) (due : Turn) → GoesOn purpose memory.old storage due → IfOk result (λ outcome. outcome_steps outcome storage.graph < purpose_steps purpose storage.graph) }
@@ -104,7 +127,9 @@ fn go_on(memory: &mut Memory, purpose: Purpose) -> Result<Outcome, NoMemory>
 }
 
 fn take_exported(memory: &Memory, export: Export, reply: Reply) -> Result<Outcome, NoMemory>
-    requires { (storage : Storage) × (due : Turn) × Replied (AnyPhase.Exporting export) reply memory.now storage due }
+    requires { TakesReply (AnyPhase.Exporting export) reply }
+    ensures steady { IfOk result (IsSteadyOutcome memory.now) }
+    ensures broken { IfOk result (λ outcome. IsBrokenAt memory.now.types (taken_for export.asked (entity_in reply)) (broken_by outcome)) }
     ensures meets { (is_next_type : List (List ℕ) → List ℕ → Bool) (storage : Storage) (due : Turn) → Replied (AnyPhase.Exporting export) reply memory.now storage due
         → IfOk result (λ outcome. Meets is_next_type outcome memory.now storage due) }
     ensures nearer { (storage : Storage) (due : Turn) → Replied (AnyPhase.Exporting export) reply memory.now storage due
@@ -118,7 +143,12 @@ fn take_exported(memory: &Memory, export: Export, reply: Reply) -> Result<Outcom
 
 /// What the reply comes to, in the phase that waits for it.
 pub fn take_reply(memory: &mut Memory, phase: Phase, reply: Reply) -> Result<Outcome, NoMemory>
-    requires { (storage : Storage) × (due : Turn) × Replied phase reply memory.old storage due }
+    requires takes { TakesReply phase reply }
+    requires known { KnowsObjects memory.old }
+    requires phase { IsSteadyPhase memory.old phase }
+    ensures known { OnOk result (KnowsObjects memory.new) }
+    ensures steady { IfOk result (IsSteadyOutcome memory.new) }
+    ensures broken { IfOk result (λ outcome. IsBrokenAt memory.old.types (taken_for (asked_in phase) (entity_in reply)) (broken_by outcome)) }
     ensures meets { (is_next_type : List (List ℕ) → List ℕ → Bool) (storage : Storage) (due : Turn) → Admits is_next_type → Replied phase reply memory.old storage due
         → IfOk result (λ outcome. Meets is_next_type outcome memory.new storage due) }
     ensures nearer { (storage : Storage) (due : Turn) → Replied phase reply memory.old storage due → IfOk result (λ outcome. outcome_steps outcome storage.graph < phase_steps phase storage.graph) }

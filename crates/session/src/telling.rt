@@ -1,11 +1,13 @@
 //! The lines that tell of what is there or ask a storage, and change no object: `show`, `forget`, `collect` and `tidy`.
 
-ghost use Rattle.std.specs.Prelude.{◌≡◌, ◌++◌, ◌∷◌, [], ℕ, Bool, List, true, codes, IfOk, MatchOption};
+ghost use Rattle.std.specs.Prelude.{◌≡◌, ◌++◌, ◌∷◌, [], ℕ, Bool, List, true, codes, IfOk, MatchOption, OnOk};
 ghost use Rattle.graph_model.specs.Served.{Storage};
+ghost use Rattle.graph_model.specs.declared.ask.Ask.{Ask as AnyAsk};
 ghost use Rattle.session_model.specs.Answer.{State, answered, collect_turn, forget_turn, show_turn};
 ghost use Rattle.session.specs.declared.memory.Memory.{Memory as AnyMemory};
 ghost use Rattle.session.specs.Stands.{StandsAt};
 ghost use Rattle.session.specs.Due.{Meets};
+ghost use Rattle.session.specs.Steady.{IsAskOf, IsSteadyOutcome, KnowsObjects};
 ghost use Rattle.session.specs.Steps.{IsShort};
 ghost use Rattle.session.specs.Refusals.{Says};
 ghost use Rattle.session.specs.Shown.{IsDescOf, LacksDesc};
@@ -60,6 +62,7 @@ fn object_line(memory: &Memory, name: &Text) -> Result<Bytes, Stop>
 
 /// `show NAME`: the object as a line of JSON.
 pub fn show(memory: &Memory, name: &Text) -> Result<Outcome, NoMemory>
+    ensures steady { IfOk result (IsSteadyOutcome memory.now) }
     ensures meets { (is_next_type : List (List ℕ) → List ℕ → Bool) (storage : Storage) (state : State) → StandsAt memory.now storage state → state.started ≡ true
         → IfOk result (λ outcome. Meets is_next_type outcome memory.now storage (show_turn state name.now)) }
     ensures short { IfOk result IsShort }
@@ -70,6 +73,9 @@ pub fn show(memory: &Memory, name: &Text) -> Result<Outcome, NoMemory>
 
 /// `forget`: gives up the objects that no name leads to. The storage is asked to hold their ids no longer.
 pub fn forget(memory: &mut Memory) -> Result<Outcome, NoMemory>
+    requires known { KnowsObjects memory.old }
+    ensures known { OnOk result (KnowsObjects memory.new) }
+    ensures steady { IfOk result (IsSteadyOutcome memory.new) }
     ensures meets { (is_next_type : List (List ℕ) → List ℕ → Bool) (storage : Storage) (state : State) → StandsAt memory.old storage state → state.started ≡ true
         → IfOk result (λ outcome. Meets is_next_type outcome memory.new storage (forget_turn state)) }
     ensures short { IfOk result IsShort }
@@ -81,6 +87,8 @@ pub fn forget(memory: &mut Memory) -> Result<Outcome, NoMemory>
 
 /// `collect`: the storage is asked to remove what is not reached.
 pub fn collect() -> Outcome
+    ensures asks { IsAskOf AnyAsk.Collect result }
+    ensures steady { (memory : AnyMemory) → IsSteadyOutcome memory result }
     ensures meets { (is_next_type : List (List ℕ) → List ℕ → Bool) (memory : AnyMemory) (storage : Storage) (state : State) → StandsAt memory storage state
         → Meets is_next_type result memory storage (collect_turn state) }
     ensures short { IsShort result }
@@ -90,6 +98,8 @@ pub fn collect() -> Outcome
 
 /// `tidy`: the storage is asked to dissolve files that are used too little.
 pub fn tidy(alloc: Global) -> Result<Outcome, NoMemory>
+    ensures asks { IfOk result (IsAskOf AnyAsk.Tidy) }
+    ensures steady { (memory : AnyMemory) → IfOk result (IsSteadyOutcome memory) }
     ensures meets { (is_next_type : List (List ℕ) → List ℕ → Bool) (memory : AnyMemory) (storage : Storage) (state : State) → StandsAt memory storage state
         → IfOk result (λ outcome. Meets is_next_type outcome memory storage (answered state (codes "tidied"))) }
     ensures short { IfOk result IsShort }

@@ -1,38 +1,19 @@
 //! Examples of lines.
 
-ghost use Rattle.std.specs.Prelude.{IfOk};
+ghost use Rattle.std.specs.Prelude.{IfOk, OnOk};
 ghost use Rattle.type_desc.specs.Grammar.{IsDesc};
+ghost use Rattle.session.specs.Steady.{KnowsObjects};
 
+use crate::fixtures::begun_with_points;
 use crate::{
     Memory, Outcome, Phase, Refusal, add_to, collect, cut_from, declare_type, drop_name, forget,
     home, new, pick, set_member, set_root, show, tidy,
 };
-use entity_form::default_object;
 use graph_model::Ask;
-use object_registry::Registry;
-use refactor_table::RefactorTable;
 use script_text::{Index, Target};
 use std::alloc::Global;
 use std::test::Fail;
 use type_desc::{DescFault, Text, TypeDesc, read_desc};
-use type_dictionary::Dictionary;
-
-/// A session that has begun on an empty store, with one type.
-fn begun(alloc: Global) -> Result<Memory, Fail> {
-    let mut types = Dictionary::new(alloc);
-    types.add_record(b"16 Point{int x,refs all}")?;
-    let mut registry = Registry::new(alloc)?;
-    registry.put_new(1, default_object(alloc, 1, &TypeDesc::root())?)?;
-    Ok(Memory {
-        alloc,
-        types,
-        table: RefactorTable::new(alloc),
-        registry,
-        next_id: 1024,
-        rooted: false,
-        started: true,
-    })
-}
 
 fn says(outcome: &Outcome, text: &str) -> bool {
     match outcome {
@@ -41,47 +22,118 @@ fn says(outcome: &Outcome, text: &str) -> bool {
     }
 }
 
+/// Whether a new `Point` of this name is answered so.
+fn makes_point(memory: &mut Memory, name: &str, answer: &str) -> Result<bool, Fail>
+    requires { KnowsObjects memory.old }
+    ensures { OnOk result (KnowsObjects memory.new) }
+{
+    let alloc = memory.alloc;
+    let outcome = new(
+        memory,
+        &Text::new(alloc, name)?,
+        &Text::new(alloc, "Point")?,
+    )?;
+    Ok(says(&outcome, answer))
+}
+
+/// Whether `set p x REST` is answered so.
+fn sets(memory: &mut Memory, rest: &str, answer: &str) -> Result<bool, Fail>
+    requires { KnowsObjects memory.old }
+    ensures { OnOk result (KnowsObjects memory.new) }
+{
+    let alloc = memory.alloc;
+    let (name, member) = (Text::new(alloc, "p")?, Text::new(alloc, "x")?);
+    let outcome = set_member(memory, &name, &member, Text::new(alloc, rest)?)?;
+    Ok(says(&outcome, answer))
+}
+
+fn shows(memory: &Memory, name: &str, answer: &str) -> Result<bool, Fail> {
+    let outcome = show(memory, &Text::new(memory.alloc, name)?)?;
+    Ok(says(&outcome, answer))
+}
+
 #[test]
 fn an_object_is_made_set_and_shown(rt: HostRuntime) -> Result<(), Fail> {
-    let alloc = rt.alloc();
-    let mut memory = begun(alloc)?;
-    let (p, x) = (Text::new(alloc, "p")?, Text::new(alloc, "x")?);
-    let point = Text::new(alloc, "Point")?;
-    assert!(rt; says(&new(&mut memory, &p, &point)?, "new 1024\n"));
-    assert!(rt; says(&new(&mut memory, &p, &point)?, "refused name-taken\n"));
-    assert!(rt;
-        says(
-            &set_member(&mut memory, &p, &x, Text::new(alloc, "7")?)?,
-            "ok\n"
-        )
-    );
-    assert!(rt;
-        says(
-            &set_member(&mut memory, &p, &x, Text::new(alloc, "seven")?)?,
-            "refused wrong-kind\n"
-        )
-    );
+    let mut memory = begun_with_points(rt.alloc())?;
+    assert!(rt; makes_point(&mut memory, "p", "new 1024\n")?);
+    assert!(rt; makes_point(&mut memory, "p", "refused name-taken\n")?);
+    assert!(rt; sets(&mut memory, "7", "ok\n")?);
+    assert!(rt; sets(&mut memory, "seven", "refused wrong-kind\n")?);
     let shown = "{\"id\":1024,\"m\":{\"all\":[],\"x\":7},\"type\":\"Point\"}\n";
-    assert!(rt; says(&show(&memory, &p)?, shown));
+    assert!(rt; shows(&memory, "p", shown)?);
     Ok(())
+}
+
+/// Whether `add NAME all TARGET` is answered `ok`.
+fn adds(memory: &mut Memory, name: &str, target: &str) -> Result<bool, Fail>
+    requires { KnowsObjects memory.old }
+    ensures { OnOk result (KnowsObjects memory.new) }
+{
+    let alloc = memory.alloc;
+    let (name, member) = (Text::new(alloc, name)?, Text::new(alloc, "all")?);
+    let target = Target::Named(Text::new(alloc, target)?);
+    Ok(says(&add_to(memory, &name, &member, &target)?, "ok\n"))
+}
+
+/// Whether `pick NAME all 0 NEW` is answered `ok`.
+fn picks(memory: &mut Memory, name: &str, new: &str) -> Result<bool, Fail>
+    requires { KnowsObjects memory.old }
+    ensures { OnOk result (KnowsObjects memory.new) }
+{
+    let alloc = memory.alloc;
+    let (name, member) = (Text::new(alloc, name)?, Text::new(alloc, "all")?);
+    let (first, new) = (Index::from_digits(alloc, b"0")?, Text::new(alloc, new)?);
+    let outcome = pick(memory, &name, &member, &first, &new)?;
+    Ok(says(&outcome, "ok\n"))
+}
+
+/// Whether `cut NAME all 0` is answered `ok`.
+fn cuts(memory: &mut Memory, name: &str) -> Result<bool, Fail>
+    requires { KnowsObjects memory.old }
+    ensures { OnOk result (KnowsObjects memory.new) }
+{
+    let alloc = memory.alloc;
+    let (name, member) = (Text::new(alloc, name)?, Text::new(alloc, "all")?);
+    let first = Index::from_digits(alloc, b"0")?;
+    Ok(says(&cut_from(memory, &name, &member, &first)?, "ok\n"))
+}
+
+/// Whether `home NAME` is answered so.
+fn goes_home(memory: &mut Memory, name: &str, answer: &str) -> Result<bool, Fail>
+    requires { KnowsObjects memory.old }
+    ensures { OnOk result (KnowsObjects memory.new) }
+{
+    let name = Text::new(memory.alloc, name)?;
+    Ok(says(&home(memory, &name)?, answer))
+}
+
+fn makes_root(memory: &mut Memory, name: &str) -> Result<bool, Fail>
+    requires { KnowsObjects memory.old }
+    ensures { OnOk result (KnowsObjects memory.new) }
+{
+    let name = Text::new(memory.alloc, name)?;
+    Ok(says(&set_root(memory, &name)?, "ok\n"))
+}
+
+fn drops(memory: &mut Memory, name: &str) -> Result<bool, Fail>
+    requires { KnowsObjects memory.old }
+    ensures { OnOk result (KnowsObjects memory.new) }
+{
+    let name = Text::new(memory.alloc, name)?;
+    Ok(says(&drop_name(memory, &name)?, "ok\n"))
 }
 
 #[test]
 fn references_lead_to_names(rt: HostRuntime) -> Result<(), Fail> {
-    let alloc = rt.alloc();
-    let mut memory = begun(alloc)?;
-    let (p, all) = (Text::new(alloc, "p")?, Text::new(alloc, "all")?);
-    let (q, h) = (Text::new(alloc, "q")?, Text::new(alloc, "h")?);
-    let first = Index::from_digits(alloc, b"0")?;
-    new(&mut memory, &p, &Text::new(alloc, "Point")?)?;
-    let target = Target::Named(Text::new(alloc, "p")?);
-    assert!(rt; says(&add_to(&mut memory, &p, &all, &target)?, "ok\n"));
-    assert!(rt; says(&pick(&mut memory, &p, &all, &first, &q)?, "ok\n"));
-    assert!(rt; says(&cut_from(&mut memory, &q, &all, &first)?, "ok\n"));
-    assert!(rt; says(&home(&mut memory, &h)?, "refused no-root\n"));
-    assert!(rt; says(&set_root(&mut memory, &q)?, "ok\n"));
-    assert!(rt; says(&home(&mut memory, &h)?, "ok\n"));
-    assert!(rt; says(&drop_name(&mut memory, &h)?, "ok\n"));
+    let mut memory = begun_with_points(rt.alloc())?;
+    assert!(rt; makes_point(&mut memory, "p", "new 1024\n")?);
+    assert!(rt; adds(&mut memory, "p", "p")?);
+    assert!(rt; picks(&mut memory, "p", "q")?);
+    assert!(rt; cuts(&mut memory, "q")?);
+    assert!(rt; goes_home(&mut memory, "h", "refused no-root\n")?);
+    assert!(rt; makes_root(&mut memory, "q")?);
+    assert!(rt; goes_home(&mut memory, "h", "ok\n")?);
+    assert!(rt; drops(&mut memory, "h")?);
     Ok(())
 }
 
@@ -96,15 +148,23 @@ fn releases_none(outcome: &Outcome, text: &str) -> bool {
 }
 
 #[test]
-fn a_storage_is_asked(rt: HostRuntime) -> Result<(), Fail> {
-    let alloc = rt.alloc();
-    let mut memory = begun(alloc)?;
-    let p = Text::new(alloc, "p")?;
-    new(&mut memory, &p, &Text::new(alloc, "Point")?)?;
-    drop_name(&mut memory, &p)?;
+fn an_object_is_forgotten(rt: HostRuntime) -> Result<(), Fail> {
+    let mut memory = begun_with_points(rt.alloc())?;
+    assert!(rt; makes_point(&mut memory, "p", "new 1024\n")?);
+    assert!(rt; drops(&mut memory, "p")?);
     assert!(rt; releases_none(&forget(&mut memory)?, "forgot 1\n"));
+    Ok(())
+}
+
+#[test]
+fn a_storage_is_asked(rt: HostRuntime) -> Result<(), Fail> {
     assert!(rt; matches!(&collect(), Outcome::Ask(Ask::Collect, Phase::Collecting)));
-    assert!(rt; matches!(&tidy(alloc)?, Outcome::Ask(Ask::Tidy, Phase::Saying(_))));
+    assert!(rt;
+        matches!(
+            &tidy(rt.alloc())?,
+            Outcome::Ask(Ask::Tidy, Phase::Saying(_))
+        )
+    );
     assert!(rt; Refusal::Full.code() == "full");
     Ok(())
 }
@@ -127,12 +187,17 @@ fn keeps_type(outcome: &Outcome, record: &str, text: &str) -> bool {
     }
 }
 
+/// Whether the type of the record is declared so.
+fn declares(memory: &mut Memory, record: &str, text: &str) -> Result<bool, Fail>
+    requires { KnowsObjects memory.old }
+{
+    let desc = desc(memory.alloc, record)?;
+    Ok(keeps_type(&declare_type(memory, &desc)?, record, text))
+}
+
 #[test]
 fn a_type_is_declared(rt: HostRuntime) -> Result<(), Fail> {
-    let alloc = rt.alloc();
-    let mut memory = begun(alloc)?;
-    let record = "17 Line{ref from,ref to}";
-    let line = desc(alloc, record)?;
-    assert!(rt; keeps_type(&declare_type(&mut memory, &line)?, record, "type 17\n"));
+    let mut memory = begun_with_points(rt.alloc())?;
+    assert!(rt; declares(&mut memory, "17 Line{ref from,ref to}", "type 17\n")?);
     Ok(())
 }

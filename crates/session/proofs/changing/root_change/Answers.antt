@@ -1,6 +1,10 @@
-use Rattle.std.proofs.Common.{sym}
-use Rattle.session.proofs.Changed.{root_value_there}
+use Rattle.session.proofs.Changed.{root_has_ref, root_has_value}
+use Rattle.session.proofs.changing.root_change.Goals.{in_default-root_value-via-in-Some-root_value+else-is_ref, in_default-root_value-via-in_default-root_value}
 use Rattle.session.proofs.changing.root_change.Goals as goal
 
-pub returns-in-None-clause-judged : goal.returns-in-None-clause-judged
-returns-in-None-clause-judged c = λ storage state stands started. absurd (root_value_there c.args.memory.now storage state stands.stands started (sym c.in-None.ensures))
+pub returns-in_default-root_value-clause-judged : goal.returns-in_default-root_value-clause-judged
+returns-in_default-root_value-clause-judged c = λ storage state stands started. absurd (elim c.in_default-root_value.branch [
+  | in_default-root_value-via-in-Some-root_value+else-is_ref w ↦
+      root_has_ref c.args.memory.now storage state w.in-Some-root_value.value.now w.is_ref.result stands.stands started w.in-Some-root_value.ensures w.is_ref.ensures.1 w.if-is_ref.false
+  | in_default-root_value-via-in_default-root_value w ↦ root_has_value c.args.memory.now storage state stands.stands started w.in_default-root_value.ensures
+])

@@ -7,5 +7,7 @@ returns c = record {
   meets = λ is_next_type storage state stands started.
       c.changed.ensures.meets is_next_type storage state (root_turn state c.args.name.now) stands (c.root_change-judged.ensures.judged storage state stands started)
       (root_line_sound state c.args.name.now stands.stands.sound started);
+  known = c.changed.ensures.known;
+  steady = c.changed.ensures.steady;
   short = c.changed.ensures.short;
 }

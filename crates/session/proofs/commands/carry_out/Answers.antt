@@ -1,118 +1,192 @@
 use Rattle.std.proofs.Common.{◌+◌, ◌*◌, length, refl, subst, arith}
+use Rattle.std.proofs.lemmas.Result.{IfOk-weaker}
 use Rattle.session.specs.Loads.{IsRead}
 use Rattle.session.proofs.Shortness.{few_steps, if_at_most_few, if_short_few}
+use Rattle.session.proofs.SteadySteps.{if_short_whole, short_whole}
 use Rattle.session.proofs.commands.carry_out.Goals as goal
 
-pub declare_type-requires : goal.declare_type-requires
-declare_type-requires c = (subst IsRead c.in-DeclareType.is c.requires.read).proper
+pub declare_type-requires-clause-grammar : goal.declare_type-requires-clause-grammar
+declare_type-requires-clause-grammar c = (subst IsRead c.in-DeclareType.is c.requires.read).proper
 
-pub refactor-requires : goal.refactor-requires
-refactor-requires c = (subst IsRead c.in-Refactor.is c.requires.read).one_form
+pub refactor-requires-clause-one_form : goal.refactor-requires-clause-one_form
+refactor-requires-clause-one_form c = (subst IsRead c.in-Refactor.is c.requires.read).one_form
 
 pub returns-in-DeclareType : goal.returns-in-DeclareType
 returns-in-DeclareType c = rw c.in-DeclareType.is (record {
+  known = c.declare_type.ensures.known;
+  steady = c.declare_type.ensures.steady;
+  whole = if_short_whole c.declare_type.result c.declare_type.ensures.short;
+  tidies = λ is. absurd (cc);
   meets = λ is_next_type storage state admits at started. c.declare_type.ensures.meets is_next_type storage state admits at;
   few = λ storage state at. if_short_few c.declare_type.result storage.graph c.declare_type.ensures.short;
 })
 
 pub returns-in-Refactor : goal.returns-in-Refactor
 returns-in-Refactor c = rw c.in-Refactor.is (record {
+  known = c.refactor.ensures.known;
+  steady = c.refactor.ensures.steady;
+  whole = if_short_whole c.refactor.result c.refactor.ensures.short;
+  tidies = λ is. absurd (cc);
   meets = λ is_next_type storage state admits at started. c.refactor.ensures.meets is_next_type storage state at;
   few = λ storage state at. if_short_few c.refactor.result storage.graph c.refactor.ensures.short;
 })
 
 pub returns-in-New : goal.returns-in-New
 returns-in-New c = rw c.in-New.is (record {
+  known = c.new.ensures.known;
+  steady = c.new.ensures.steady;
+  whole = if_short_whole c.new.result c.new.ensures.short;
+  tidies = λ is. absurd (cc);
   meets = λ is_next_type storage state admits at started. c.new.ensures.meets is_next_type storage state at (started refl);
   few = λ storage state at. if_short_few c.new.result storage.graph c.new.ensures.short;
 })
 
 pub returns-in-SetMember : goal.returns-in-SetMember
 returns-in-SetMember c = rw c.in-SetMember.is (record {
+  known = c.set_member.ensures.known;
+  steady = c.set_member.ensures.steady;
+  whole = if_short_whole c.set_member.result c.set_member.ensures.short;
+  tidies = λ is. absurd (cc);
   meets = λ is_next_type storage state admits at started. c.set_member.ensures.meets is_next_type storage state at (started refl) (subst IsRead c.in-SetMember.is c.requires.read).proper;
   few = λ storage state at. if_short_few c.set_member.result storage.graph c.set_member.ensures.short;
 })
 
 pub returns-in-AddTo : goal.returns-in-AddTo
 returns-in-AddTo c = rw c.in-AddTo.is (record {
+  known = c.add_to.ensures.known;
+  steady = c.add_to.ensures.steady;
+  whole = if_short_whole c.add_to.result c.add_to.ensures.short;
+  tidies = λ is. absurd (cc);
   meets = λ is_next_type storage state admits at started. c.add_to.ensures.meets is_next_type storage state at (started refl);
   few = λ storage state at. if_short_few c.add_to.result storage.graph c.add_to.ensures.short;
 })
 
 pub returns-in-CutFrom : goal.returns-in-CutFrom
 returns-in-CutFrom c = rw c.in-CutFrom.is (record {
+  known = c.cut_from.ensures.known;
+  steady = c.cut_from.ensures.steady;
+  whole = if_short_whole c.cut_from.result c.cut_from.ensures.short;
+  tidies = λ is. absurd (cc);
   meets = λ is_next_type storage state admits at started. c.cut_from.ensures.meets is_next_type storage state at (started refl);
   few = λ storage state at. if_short_few c.cut_from.result storage.graph c.cut_from.ensures.short;
 })
 
 pub returns-in-SetRoot : goal.returns-in-SetRoot
 returns-in-SetRoot c = rw c.in-SetRoot.is (record {
+  known = c.set_root.ensures.known;
+  steady = c.set_root.ensures.steady;
+  whole = if_short_whole c.set_root.result c.set_root.ensures.short;
+  tidies = λ is. absurd (cc);
   meets = λ is_next_type storage state admits at started. c.set_root.ensures.meets is_next_type storage state at (started refl);
   few = λ storage state at. if_short_few c.set_root.result storage.graph c.set_root.ensures.short;
 })
 
 pub returns-in-Store : goal.returns-in-Store
 returns-in-Store c = rw c.in-Store.is (record {
+  known = c.store.ensures.known;
+  steady = c.store.ensures.steady;
+  whole = if_short_whole c.store.result c.store.ensures.short;
+  tidies = λ is. absurd (cc);
   meets = λ is_next_type storage state admits at started. c.store.ensures.meets is_next_type storage state at (started refl);
   few = λ storage state at. if_short_few c.store.result storage.graph c.store.ensures.short;
 })
 
 pub returns-in-StoreAll : goal.returns-in-StoreAll
 returns-in-StoreAll c = rw c.in-StoreAll.is (record {
+  known = c.store_all.ensures.known;
+  steady = c.store_all.ensures.steady;
+  whole = if_short_whole c.store_all.result c.store_all.ensures.short;
+  tidies = λ is. absurd (cc);
   meets = λ is_next_type storage state admits at started. c.store_all.ensures.meets is_next_type storage state at (started refl);
   few = λ storage state at. if_short_few c.store_all.result storage.graph c.store_all.ensures.short;
 })
 
 pub returns-in-Show : goal.returns-in-Show
 returns-in-Show c = rw c.in-Show.is (record {
+  known = IfOk-weaker c.show.result _ _ (λ outcome is. c.requires.known) c.show.ensures.short;
+  steady = c.show.ensures.steady;
+  whole = if_short_whole c.show.result c.show.ensures.short;
+  tidies = λ is. absurd (cc);
   meets = λ is_next_type storage state admits at started. c.show.ensures.meets is_next_type storage state at (started refl);
   few = λ storage state at. if_short_few c.show.result storage.graph c.show.ensures.short;
 })
 
 pub returns-in-Home : goal.returns-in-Home
 returns-in-Home c = rw c.in-Home.is (record {
+  known = c.home.ensures.known;
+  steady = c.home.ensures.steady;
+  whole = if_short_whole c.home.result c.home.ensures.short;
+  tidies = λ is. absurd (cc);
   meets = λ is_next_type storage state admits at started. c.home.ensures.meets is_next_type storage state at (started refl);
   few = λ storage state at. if_short_few c.home.result storage.graph c.home.ensures.short;
 })
 
 pub returns-in-Follow : goal.returns-in-Follow
 returns-in-Follow c = rw c.in-Follow.is (record {
+  known = c.follow.ensures.known;
+  steady = c.follow.ensures.steady;
+  whole = c.follow.ensures.whole;
+  tidies = λ is. absurd (cc);
   meets = λ is_next_type storage state admits at started. c.follow.ensures.meets is_next_type storage state at (started refl);
   few = λ storage state at. if_at_most_few c.follow.result storage.graph (length storage.graph + 3) (omega arith) (c.follow.ensures.few storage state at);
 })
 
 pub returns-in-Pick : goal.returns-in-Pick
 returns-in-Pick c = rw c.in-Pick.is (record {
+  known = c.pick.ensures.known;
+  steady = c.pick.ensures.steady;
+  whole = if_short_whole c.pick.result c.pick.ensures.short;
+  tidies = λ is. absurd (cc);
   meets = λ is_next_type storage state admits at started. c.pick.ensures.meets is_next_type storage state at (started refl);
   few = λ storage state at. if_short_few c.pick.result storage.graph c.pick.ensures.short;
 })
 
 pub returns-in-DropName : goal.returns-in-DropName
 returns-in-DropName c = rw c.in-DropName.is (record {
+  known = c.drop_name.ensures.known;
+  steady = c.drop_name.ensures.steady;
+  whole = if_short_whole c.drop_name.result c.drop_name.ensures.short;
+  tidies = λ is. absurd (cc);
   meets = λ is_next_type storage state admits at started. c.drop_name.ensures.meets is_next_type storage state at (started refl);
   few = λ storage state at. if_short_few c.drop_name.result storage.graph c.drop_name.ensures.short;
 })
 
 pub returns-in-Forget : goal.returns-in-Forget
 returns-in-Forget c = rw c.in-Forget.is (record {
+  known = c.forget.ensures.known;
+  steady = c.forget.ensures.steady;
+  whole = if_short_whole c.forget.result c.forget.ensures.short;
+  tidies = λ is. absurd (cc);
   meets = λ is_next_type storage state admits at started. c.forget.ensures.meets is_next_type storage state at (started refl);
   few = λ storage state at. if_short_few c.forget.result storage.graph c.forget.ensures.short;
 })
 
 pub returns-in-Collect : goal.returns-in-Collect
 returns-in-Collect c = rw c.in-Collect.is (record {
+  known = c.requires.known;
+  steady = c.collect.ensures.steady c.args.memory.now;
+  whole = short_whole c.collect.result c.collect.ensures.short;
+  tidies = λ is. absurd (cc);
   meets = λ is_next_type storage state admits at started. c.collect.ensures.meets is_next_type c.args.memory.now storage state at;
   few = λ storage state at. few_steps c.collect.result storage.graph c.collect.ensures.short;
 })
 
 pub returns-in-Tidy : goal.returns-in-Tidy
 returns-in-Tidy c = rw c.in-Tidy.is (record {
+  known = IfOk-weaker c.tidy.result _ _ (λ outcome is. c.requires.known) c.tidy.ensures.short;
+  steady = c.tidy.ensures.steady c.args.memory.now;
+  whole = if_short_whole c.tidy.result c.tidy.ensures.short;
+  tidies = λ is. c.tidy.ensures.asks;
   meets = λ is_next_type storage state admits at started. c.tidy.ensures.meets is_next_type c.args.memory.now storage state at;
   few = λ storage state at. if_short_few c.tidy.result storage.graph c.tidy.ensures.short;
 })
 
 pub returns-in-Export : goal.returns-in-Export
 returns-in-Export c = rw c.in-Export.is (record {
+  known = IfOk-weaker c.export.result _ _ (λ outcome is. c.requires.known) c.export.ensures.steady;
+  steady = c.export.ensures.steady;
+  whole = c.export.ensures.whole;
+  tidies = λ is. absurd (cc);
   meets = λ is_next_type storage state admits at started. c.export.ensures.meets is_next_type storage state at (started refl);
   few = λ storage state at. if_at_most_few c.export.result storage.graph (4 * length storage.graph + 1) (omega arith) (c.export.ensures.few storage);
 })

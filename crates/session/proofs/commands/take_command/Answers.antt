@@ -4,18 +4,18 @@ use Rattle.std.proofs.lemmas.Grind.{common_steps}
 use Rattle.script_text.specs.Meaning.{meant}
 use Rattle.session_model.specs.Answer.{Turn, needs_start}
 use Rattle.session.specs.Due.{Meets}
-use Rattle.session.proofs.Beginning.{comes_at_once, comes_later, has_begun, has_not_begun, root_is}
-use Rattle.session.proofs.KnownObjects.{stands_known}
+use Rattle.session.proofs.Beginning.{comes_at_once, comes_later, has_begun, has_not_begun, root_is, second_fails}
 use Rattle.session.proofs.commands.take_command.Goals as goal
-
-pub carry_out-requires-clause-known : goal.carry_out-requires-clause-known
-carry_out-requires-clause-known c = stands_known c.args.memory.now c.requires.stands.0 c.requires.stands.1 c.requires.stands.2
 
 pub returns-then-not-must_begin : goal.returns-then-not-must_begin
 returns-then-not-must_begin c =
     let off : c.must_begin.result ≡ false = grind (arith, common_steps) in
     let now : (needs_start (meant c.args.command) && not c.args.memory.now.started) ≡ false = sym c.must_begin.ensures ∙ off in
     record {
+      known = c.carry_out.ensures.known;
+      steady = c.carry_out.ensures.steady;
+      whole = c.carry_out.ensures.whole;
+      tidies = λ is begun. c.carry_out.ensures.tidies is;
       meets = λ is_next_type storage state admits at.
           subst (λ (t : Turn). IfOk c.carry_out.result (λ o. Meets is_next_type o c.carry_out.new.memory storage t)) (sym (comes_at_once c.args.memory.now storage state (meant c.args.command) at now))
           (c.carry_out.ensures.meets is_next_type storage state admits at (has_begun c.args.memory.now storage state (meant c.args.command) at now));
@@ -26,28 +26,25 @@ returns-then-memory c =
     let on : c.must_begin.result ≡ true = grind (arith, common_steps) in
     let later : (needs_start (meant c.args.command) && not c.args.memory.now.started) ≡ true = sym c.must_begin.ensures ∙ on in
     record {
+      known = c.load_root.ensures.known;
+      steady = c.load_root.ensures.steady;
+      whole = c.load_root.ensures.whole;
+      tidies = λ is begun. absurd (let unbegun = second_fails (needs_start (meant c.args.command)) c.args.memory.now.started later in cc);
       meets = λ is_next_type storage state admits at.
           subst (λ (t : Turn). IfOk c.load_root.result (λ o. Meets is_next_type o c.load_root.new.memory storage t)) (sym (comes_later c.args.memory.now storage state (meant c.args.command) at later))
           (c.load_root.ensures.meets is_next_type storage state at (has_not_begun c.args.memory.now storage state (meant c.args.command) at later)
-          (root_is c.args.memory.now storage state (meant c.args.command) true at later c.if-memory.true) c.requires.read);
+          (root_is c.args.memory.now storage state (meant c.args.command) true at later c.if-memory.true));
     }
-
-pub carry_out-requires-2-clause-known : goal.carry_out-requires-2-clause-known
-carry_out-requires-2-clause-known c =
-    let on : c.must_begin.result ≡ true = grind (arith, common_steps) in
-    let later : (needs_start (meant c.args.command) && not c.args.memory.now.started) ≡ true = sym c.must_begin.ensures ∙ on in
-    let storage = c.requires.stands.0 in
-    let state = c.requires.stands.1 in
-    let at = c.requires.stands.2 in
-    let begun = c.in_ok-make_root.ensures.stands storage state at (has_not_begun c.args.memory.now storage state (meant c.args.command) at later)
-    (root_is c.args.memory.now storage state (meant c.args.command) false at later c.if-memory.false) in
-    stands_known c.make_root.new.memory storage begun.0 begun.1
 
 pub returns : goal.returns
 returns c =
     let on : c.must_begin.result ≡ true = grind (arith, common_steps) in
     let later : (needs_start (meant c.args.command) && not c.args.memory.now.started) ≡ true = sym c.must_begin.ensures ∙ on in
     record {
+      known = c.carry_out-2.ensures.known;
+      steady = c.carry_out-2.ensures.steady;
+      whole = c.carry_out-2.ensures.whole;
+      tidies = λ is begun. absurd (let unbegun = second_fails (needs_start (meant c.args.command)) c.args.memory.now.started later in cc);
       meets = λ is_next_type storage state admits at.
           let begun = c.in_ok-make_root.ensures.stands storage state at (has_not_begun c.args.memory.now storage state (meant c.args.command) at later)
           (root_is c.args.memory.now storage state (meant c.args.command) false at later c.if-memory.false) in

@@ -1,9 +1,27 @@
-use Rattle.std.proofs.Common.{Option, ap}
+use Rattle.std.proofs.Common.{Option, Some, ap, subst, sym}
 use Rattle.std.specs.Prelude.{is_some}
+use Rattle.std.proofs.lemmas.Result.{IfOk-weaker}
 use Rattle.graph_model.specs.declared.entity.Entity.{Entity}
+use Rattle.session.specs.Broken.{IsBrokenAt, taken_for}
 use Rattle.session.proofs.LoadCounts.{if_below, steps_fall}
 use Rattle.session.proofs.LoadTurns.{entity_given, takes_next, walk_goes_on}
+use Rattle.session.proofs.SteadySteps.{broken_next}
 use Rattle.session.proofs.loading.load_on.Goals as goal
+
+pub next-requires : goal.next-requires
+next-requires c = record { mappings = c.requires.loading.mappings; typed = c.requires.loading.typed }
+
+pub take_step-requires-clause-steady : goal.take_step-requires-clause-steady
+take_step-requires-clause-steady c = record {
+  mappings = c.in_ok-step.ensures.mappings;
+  typed = c.in_ok-step.ensures.typed;
+  asks = c.in_ok-step.ensures.asks;
+  steady = c.requires.purpose;
+}
+
+pub returns-clause-broken : goal.returns-clause-broken
+returns-clause-broken c = IfOk-weaker c.take_step.result _ _ (λ outcome is. subst (IsBrokenAt c.args.memory.now.types (taken_for (Some c.args.loading.asked) (Some c.args.entity))) (sym is)
+    (broken_next c.args.memory.now.types c.args.loading c.args.entity c.in_ok-step.step c.in_ok-step.ensures.broken)) c.take_step.ensures.broken
 
 pub returns-clause-meets : goal.returns-clause-meets
 returns-clause-meets c = λ is_next_type storage due t. c.take_step.ensures.meets is_next_type storage due

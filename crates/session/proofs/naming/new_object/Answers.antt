@@ -11,4 +11,4 @@ returns-then-memory-ge-ID_LIMIT-clause-judged c = λ storage state stands.
 
 pub returns-clause-judged : goal.returns-clause-judged
 returns-clause-judged c = λ storage state stands.
-    new_judged c.args.memory.now storage state c.args.name.now c.args.type_name.now c.in-Some.type_id c.fresh_object.result stands c.in_ok-may_make.ensures (sym c.in-Some.ensures.value) c.if-memory-ge-ID_LIMIT.false c.fresh_object.ensures
+    new_judged c.args.memory.now storage state c.args.name.now c.args.type_name.now c.in-Some.type_id c.fresh_object.result stands c.in_ok-may_make.ensures (sym c.in-Some.ensures.value) c.if-memory-ge-ID_LIMIT.false c.fresh_object.ensures.fresh

@@ -4,13 +4,7 @@ use Rattle.session.specs.Due.{Meets}
 use Rattle.session.specs.Loads.{GoesOn, GoesOnStart}
 use Rattle.session.specs.Steps.{outcome_steps, purpose_steps}
 use Rattle.session.specs.declared.outcome.Purpose.{Purpose}
-use Rattle.session.proofs.KnownObjects.{stands_known}
 use Rattle.session.proofs.taking.go_on.Goals as goal
-
-pub carry_out-requires-clause-known : goal.carry_out-requires-clause-known
-carry_out-requires-clause-known c =
-    let start : GoesOnStart c.in-Start.command c.args.memory.now c.requires.0 c.requires.1 = subst (λ (p : Purpose). GoesOn p c.args.memory.now c.requires.0 c.requires.1) c.in-Start.is c.requires.2 in
-    stands_known c.args.memory.now c.requires.0 start.state start.stands
 
 pub returns-in-Start-clause-meets : goal.returns-in-Start-clause-meets
 returns-in-Start-clause-meets c = λ is_next_type storage due admits goes_on.

@@ -2,7 +2,7 @@ use Rattle.std.proofs.Common.{subst}
 use Rattle.std.specs.Prelude.{Option}
 use Rattle.graph_model.specs.declared.entity.Entity.{Entity}
 use Rattle.lazy_refs.specs.Steps.{IsGiven}
-use Rattle.lazy_refs.proofs.Advancing.{done_next}
+use Rattle.lazy_refs.proofs.Advancing.{asked_next, done_next}
 use Rattle.lazy_refs.proofs.Ending.{stepped}
 use Rattle.lazy_refs.proofs.Turning.{if_ok}
 use Rattle.lazy_refs.proofs.Typing.{typed_step}
@@ -16,6 +16,10 @@ returns-in-Some-clause-step c = λ g start loading given.
 pub returns-in-Some-clause-done : goal.returns-in-Some-clause-done
 returns-in-Some-clause-done c = rw c.in-Some.is
     (if_ok _ _ c.take.result (λ step t. done_next c.args.types.now c.args.table.now c.args.registry.now.instances c.in-Some.entity c.args.self.now c.take.new.self step t) c.take.ensures.step)
+
+pub returns-in-Some-clause-asks : goal.returns-in-Some-clause-asks
+returns-in-Some-clause-asks c =
+    if_ok _ _ c.take.result (λ step t. asked_next c.args.types.now c.args.table.now c.args.registry.now.instances c.in-Some.entity c.args.self.now c.take.new.self step t) c.take.ensures.step
 
 pub returns-in-Some-clause-typed : goal.returns-in-Some-clause-typed
 returns-in-Some-clause-typed c = if_ok _ _ c.take.result
