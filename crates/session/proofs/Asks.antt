@@ -12,7 +12,7 @@ use Rattle.session_model.proofs.Allowing.{kept_count}
 use Rattle.session_model.proofs.Asking.{ask_stays_allowed}
 use Rattle.session_model.proofs.Forgetting.{forget_line_sound}
 use Rattle.session_model.proofs.Holding.{held_kept}
-use Rattle.object_registry.specs.Bindings.{names_differ}
+use Rattle.session_model.specs.Sound.{are_distinct}
 use Rattle.object_registry.specs.Registered.{Registered, bound_ids}
 use Rattle.object_registry.proofs.SameBound.{kept_by_same_names}
 use Rattle.session.specs.declared.memory.Memory.{Memory}
@@ -91,7 +91,7 @@ given_up false b c e = sym e
 
 pub forget_awaits : (is_next_type : List (List ℕ) → List ℕ → Bool) (memory : Memory) (registry : Registered) (count : ℕ) (released text : List ℕ) (storage : Storage) (state : State)
     → StandsAt memory storage state → state.started ≡ true
-    → registry.instances ≡ kept_instances memory.registry.instances (bound_ids memory.registry.names) → registry.names ≡ memory.registry.names → names_differ memory.registry.names ≡ true
+    → registry.instances ≡ kept_instances memory.registry.instances (bound_ids memory.registry.names) → registry.names ≡ memory.registry.names → are_distinct memory.registry.names ≡ true
     → ((x : ℕ) → has x released ≡ (has x (held_ids memory.registry.instances) && not (has x (held_ids registry.instances))))
     → text ≡ (codes "forgot " ++ decimal count) ++ 10 ∷ [] → count ≡ length memory.registry.instances - length registry.instances
     → Awaits is_next_type (asks.Release released) (phases.Saying text) (record memory { registry = registry }) storage (forget_turn state)

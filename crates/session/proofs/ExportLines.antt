@@ -10,6 +10,7 @@ use Rattle.graph_model.specs.declared.entity.Entity.{Entity}
 use Rattle.graph_model.specs.declared.entity.Record.{Record}
 use Rattle.graph_model.proofs.Graphs.{entity_of_filter, has_ids}
 use Rattle.type_desc.specs.declared.desc.TypeDesc.{TypeDesc}
+use Rattle.type_dictionary.specs.Latest.{desc_of}
 use Rattle.entity_form.specs.Form.{Holds}
 use Rattle.entity_form.specs.Reading.{values_at}
 use Rattle.entity_form.specs.Values.{kinds_of}
@@ -19,7 +20,6 @@ use Rattle.entity_form.proofs.Forms.{holds_again}
 use Rattle.graph_export.specs.Line.{line}
 use Rattle.graph_export.proofs.Feedless.{line_no_feed}
 use Rattle.lazy_refs.specs.Forms.{IsObjectOf}
-use Rattle.session_model.specs.Types.{desc_of}
 use Rattle.session_model.specs.Instances.{reached}
 use Rattle.session_model.specs.Loading.{values_in}
 use Rattle.session_model.specs.Answer.{State, exported, no_desc}

@@ -2,9 +2,10 @@
 use Rattle.std.proofs.Common.{◌≡◌, ℕ, true, false, not, List, ◌∷◌, Option, Some, None, ap, ◌∙◌, refl, sym}
 use Rattle.std.specs.Prelude.{is_none, is_some, option_and_then, unwrap_or, slice_get}
 use Rattle.type_desc.specs.declared.desc.TypeDesc.{TypeDesc}
+use Rattle.type_dictionary.specs.Latest.{desc_of}
 use Rattle.entity_form.specs.declared.value.Value.{Value}
 use Rattle.graph_model.specs.Served.{Storage}
-use Rattle.session_model.specs.Types.{desc_of, member_index}
+use Rattle.session_model.specs.Types.{member_index}
 use Rattle.session_model.specs.Instances.{Instance, Instances, instance_at}
 use Rattle.session_model.specs.Answer.{State, Turn, Refusal, id_in, id_of, is_bound, judged, lacks_member, member_at, named_instance, no_desc, no_member, no_name, nothing, value_in, value_of}
 use Rattle.session.specs.declared.memory.Memory.{Memory}

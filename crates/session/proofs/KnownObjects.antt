@@ -5,12 +5,13 @@ use Rattle.graph_model.specs.Ids.{has}
 use Rattle.graph_model.specs.Served.{Storage}
 use Rattle.type_desc.specs.declared.desc.Kind.{Kind}
 use Rattle.type_desc.specs.declared.desc.TypeDesc.{TypeDesc}
+use Rattle.type_desc.specs.Root.{root_desc}
+use Rattle.type_dictionary.specs.Latest.{desc_of}
 use Rattle.entity_form.specs.Values.{AreOf, default_of, kind_of, kinds_of}
 use Rattle.entity_form.specs.declared.value.Object.{Object}
 use Rattle.entity_form.specs.declared.value.Value.{Value}
 use Rattle.entity_form.specs.declared.value.Value.TheVariants.{Int, Text, Bytes, Ref, Lazy, Refs}
 use Rattle.entity_form.proofs.DefaultKinds.{kinds_of-defaults}
-use Rattle.session_model.specs.Types.{desc_of, root_type}
 use Rattle.session_model.specs.Instances.{Instance, Instances, graph_of, instance_at, kept_instances, kept_refs, put_instance, reached}
 use Rattle.session_model.specs.Answer.{State, refs_in}
 use Rattle.session_model.specs.Sound.{IsSound}
@@ -110,8 +111,8 @@ got_more (t ∷ types) more (suc i) desc e = got_more types more i desc e
 desc_stays : (types more : List TypeDesc) (id : ℕ) (desc : TypeDesc) → desc_of types id ≡ Some desc → desc_of (types ++ more) id ≡ Some desc
 desc_stays types more id desc = by (nat_eq id 1) (nat_le 16 id)
   where
-    by : (s t : Bool) → cond s (Some root_type) (cond t (slice_get types (id - 16)) None) ≡ Some desc
-        → cond s (Some root_type) (cond t (slice_get (types ++ more) (id - 16)) None) ≡ Some desc
+    by : (s t : Bool) → cond s (Some root_desc) (cond t (slice_get types (id - 16)) None) ≡ Some desc
+        → cond s (Some root_desc) (cond t (slice_get (types ++ more) (id - 16)) None) ≡ Some desc
     by true t e = e
     by false true e = got_more types more (id - 16) desc e
     by false false e = e

@@ -5,12 +5,12 @@ use Rattle.graph_model.specs.Ids.{has, rises}
 use Rattle.graph_model.specs.Graph.{lists}
 use Rattle.graph_model.specs.Served.{OnlyHeldChanged, Storage}
 use Rattle.graph_model.proofs.Places.{nat_eq-swap}
+use Rattle.type_desc.specs.Root.{root_desc}
 use Rattle.entity_form.specs.declared.value.Object.{Object}
 use Rattle.session_model.specs.Instances.{Instances, held_ids, instance_at, put_instance}
 use Rattle.session_model.specs.Loading.{load}
 use Rattle.session_model.specs.Answer.{Binding, State, Turn, id_in, first_instances, fresh, loaded_turn, refused, started_turn}
 use Rattle.session_model.specs.Sound.{IsSound, IsToLoad}
-use Rattle.session_model.specs.Types.{root_type}
 use Rattle.session_model.proofs.Allowing.{root_to_load}
 use Rattle.session_model.proofs.Filling.{IsFilled, filled}
 use Rattle.session_model.proofs.Finding.{at_put, ids_of, rises_put}
@@ -95,7 +95,7 @@ loaded_sound state id ks s started loads = record {
 -- what is loaded at the start is what the model's script begins with
 pub first_loaded : (state : State) → IsSound state → state.started ≡ false → lists state.graph 1 ≡ true → first_instances state ≡ load state.types state.pairs state.graph state.instances 1
 first_loaded state s unbegun there =
-    ap (λ (b : Bool). cond b (load state.types state.pairs state.graph [] 1) (Ok (put_instance 1 (fresh 1 root_type) []))) there
+    ap (λ (b : Bool). cond b (load state.types state.pairs state.graph [] 1) (Ok (put_instance 1 (fresh 1 root_desc) []))) there
     ∙ ap (λ (hs : Instances). load state.types state.pairs state.graph hs 1) (sym (s.unstarted unbegun))
 
 pub started_sound : (state : State) (ks : Instances) → IsSound state → state.started ≡ false → lists state.graph 1 ≡ true → load state.types state.pairs state.graph state.instances 1 ≡ Ok ks

@@ -3,9 +3,9 @@ use Rattle.std.proofs.Common.{◌≡◌, Bool, true, false, cond, List, [], Ok, 
 use Rattle.graph_model.specs.Ids.{has}
 use Rattle.graph_model.specs.Graph.{lists}
 use Rattle.graph_model.specs.Served.{Storage}
+use Rattle.type_desc.specs.Root.{root_desc}
 use Rattle.entity_form.specs.declared.value.Object.{Object}
 use Rattle.session_model.specs.Commands.{Command}
-use Rattle.session_model.specs.Types.{root_type}
 use Rattle.session_model.specs.Instances.{Instance, Instances, held_ids, put_instance}
 use Rattle.session_model.specs.Loading.{load}
 use Rattle.session_model.specs.Answer.{Binding, State, command_turn, first_instances, fresh, id_in, started_turn}
@@ -16,13 +16,13 @@ use Rattle.session.specs.Limits.{most_bytes}
 use Rattle.session.specs.Stands.{StandsAt}
 
 abbrev root_alone : Instances
-root_alone = put_instance 1 (fresh 1 root_type) []
+root_alone = put_instance 1 (fresh 1 root_desc) []
 
 root_first : (state : State) → lists state.graph 1 ≡ false → first_instances state ≡ Ok root_alone
 root_first state absent = ap (λ (b : Bool). cond b (load state.types state.pairs state.graph [] 1) (Ok root_alone)) absent
 
 pub begins_without_root : (memory : Memory) (registry : Registered) (root : Object) (storage : Storage) (state : State) → StandsAt memory storage state → state.started ≡ false → lists state.graph 1 ≡ false
-    → unsaved root ≡ fresh 1 root_type → registry.names ≡ memory.registry.names → registry.instances ≡ put_instance 1 (unsaved root) memory.registry.instances
+    → unsaved root ≡ fresh 1 root_desc → registry.names ≡ memory.registry.names → registry.instances ≡ put_instance 1 (unsaved root) memory.registry.instances
     → (begun : State) × StandsAt (record memory { registry = registry; started = true }) storage begun × (begun.started ≡ true)
     × ((command : Command) → started_turn most_bytes state command (first_instances state) ≡ command_turn most_bytes begun command)
 begins_without_root memory registry root storage state at unbegun absent made names is =
@@ -35,7 +35,7 @@ begins_without_root memory registry root storage state at unbegun absent made na
     none_before = at.stands.sound.unstarted unbegun
 
     instances : registry.instances ≡ root_alone
-    instances = is ∙ (ap (λ (i : Instance). put_instance 1 i memory.registry.instances) made ∙ ap (put_instance 1 (fresh 1 root_type)) (at.stands.instances ∙ none_before))
+    instances = is ∙ (ap (λ (i : Instance). put_instance 1 i memory.registry.instances) made ∙ ap (put_instance 1 (fresh 1 root_desc)) (at.stands.instances ∙ none_before))
 
     stands : StandsAt (record memory { registry = registry; started = true }) storage begun
     stands = record {

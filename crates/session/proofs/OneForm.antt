@@ -3,12 +3,13 @@ use Rattle.std.proofs.Common.{◌≡◌, ℕ, Bool, true, false, cond, List, [],
 use Rattle.std.specs.Prelude.{nat_le}
 use Rattle.std.specs.List.{AllByRecursion}
 use Rattle.std.specs.Str.{bytes_eq, is_utf8}
+use Rattle.std.specs.Option.{option_or}
 use Rattle.type_desc.specs.declared.desc.Member.{Member}
 use Rattle.refactor_table.specs.Reading.{ref_name_at}
 use Rattle.refactor_table.specs.declared.name.RefName.{RefName}
 use Rattle.refactor_table.specs.declared.name.RefName.TheVariants.{OfType, OfMember}
 use Rattle.session_model.specs.Commands as cmd
-use Rattle.session_model.specs.Commands.{Command, Row, ◌>>=◌, add_line, bare_line, by_first, by_rows, command_in, command_of, cut_at, cut_line, follow_line, front_words, member_name_of, members_of, name_line, name_of, new_line, number_of, or_else, pick_line, refactor_line, refactor_of, rows, set_line, set_of, target_of, type_line, type_name_of, whole, words_of}
+use Rattle.session_model.specs.Commands.{Command, Row, ◌>>=◌, add_line, bare_line, by_first, by_rows, command_in, command_of, cut_at, cut_line, follow_line, front_words, member_name_of, members_of, name_line, name_of, new_line, number_of, pick_line, refactor_line, refactor_of, rows, set_line, set_of, target_of, type_line, type_name_of, whole, words_of}
 use Rattle.session.specs.Loads.{HasOneForm}
 
 -- the command that is made, if one is
@@ -138,7 +139,7 @@ first_form (word ∷ words) = by_rows_form rows rows_form word words
 set_form : (line : List ℕ) → MakesOneForm (set_of line)
 set_form line = step (cut_at 32 line) _ (λ parts. step (cond (bytes_eq parts.0 (codes "set")) (front_words 2 parts.1) None) _ (λ fields. set_line_form fields.0 fields.1))
 
-first_of_two : (o p : Option Command) → MakesOneForm o → MakesOneForm p → MakesOneForm (or_else o p)
+first_of_two : (o p : Option Command) → MakesOneForm o → MakesOneForm p → MakesOneForm (option_or o p)
 first_of_two None p a b = b
 first_of_two (Some c) p a b = a
 

@@ -6,12 +6,12 @@ use Rattle.std.specs.Str.{bytes_eq}
 use Rattle.std.proofs.lemmas.Bool.{and_from, and_parts, or_cases, or_left, or_right}
 use Rattle.graph_model.specs.Served.{Storage}
 use Rattle.refactor_table.specs.Pairs.{Clashes, ClashesAt, IsFresh, pair_of}
+use Rattle.refactor_table.specs.Names.{same_name}
 use Rattle.refactor_table.specs.declared.name.Pair.{Pair}
 use Rattle.refactor_table.specs.declared.name.RefName.{RefName}
 use Rattle.refactor_table.specs.declared.name.RefName.TheVariants.{OfType, OfMember}
 use Rattle.lazy_refs.proofs.Finding.{any_at, any_from}
 use Rattle.lazy_refs.proofs.Naming.{bytes_same, same_bytes}
-use Rattle.session_model.specs.Types.{is_same_ref_name}
 use Rattle.session_model.specs.Answer.{Refusal, State, Turn, differs, duplicate, ok, refactor_turn, reserved, wrong_kind}
 use Rattle.session_model.specs.Sound.{IsSound}
 use Rattle.session_model.proofs.Declaring.{refactor_line_sound}
@@ -29,7 +29,7 @@ use Rattle.session.proofs.Told.{answers_turn}
 
 -- ---- the pairs that have a name
 
-same_ref_name : (a b : RefName) → is_same_ref_name a b ≡ true → a ≡ b
+same_ref_name : (a b : RefName) → same_name a b ≡ true → a ≡ b
 same_ref_name (OfType t) (OfType u) h = ap OfType (same_bytes t u h)
 same_ref_name (OfType t) (OfMember u n) h = absurd cc
 same_ref_name (OfMember t m) (OfType u) h = absurd cc
@@ -37,20 +37,20 @@ same_ref_name (OfMember t m) (OfMember u n) h =
     let parts = and_parts (bytes_eq t u) (bytes_eq m n) h in
     ap (λ (x : List ℕ). OfMember x m) (same_bytes t u parts.0) ∙ ap (OfMember u) (same_bytes m n parts.1)
 
-ref_name_same : (a : RefName) → is_same_ref_name a a ≡ true
+ref_name_same : (a : RefName) → same_name a a ≡ true
 ref_name_same (OfType t) = bytes_same t
 ref_name_same (OfMember t m) = and_from (bytes_eq t t) (bytes_eq m m) (bytes_same t) (bytes_same m)
 
 -- the pair has one of the names
 abbrev has_name : RefName → RefName → Pair → Bool
-has_name old new p = is_same_ref_name p.old old || is_same_ref_name p.new new
+has_name old new p = same_name p.old old || same_name p.new new
 
 name_had : (old new : RefName) (p : Pair) → Clashes old new p → has_name old new p ≡ true
-name_had old new p (inl e) = or_left (is_same_ref_name p.old old) (is_same_ref_name p.new new) (ap (λ (n : RefName). is_same_ref_name n old) e ∙ ref_name_same old)
-name_had old new p (inr e) = or_right (is_same_ref_name p.old old) (is_same_ref_name p.new new) (ap (λ (n : RefName). is_same_ref_name n new) e ∙ ref_name_same new)
+name_had old new p (inl e) = or_left (same_name p.old old) (same_name p.new new) (ap (λ (n : RefName). same_name n old) e ∙ ref_name_same old)
+name_had old new p (inr e) = or_right (same_name p.old old) (same_name p.new new) (ap (λ (n : RefName). same_name n new) e ∙ ref_name_same new)
 
 had_clashes : (old new : RefName) (p : Pair) → has_name old new p ≡ true → Clashes old new p
-had_clashes old new p h = elim (or_cases (is_same_ref_name p.old old) (is_same_ref_name p.new new) h) [
+had_clashes old new p h = elim (or_cases (same_name p.old old) (same_name p.new new) h) [
   | inl e ↦ inl (same_ref_name p.old old e)
   | inr e ↦ inr (same_ref_name p.new new e)
 ]

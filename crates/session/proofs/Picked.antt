@@ -4,11 +4,12 @@ use Rattle.std.specs.Prelude.{◌^◌, ◌==◌, codes, is_none, is_some, map, n
 use Rattle.std.specs.Fmt.{decimal}
 use Rattle.std.proofs.lemmas.Bool.Decides.{nat_tests}
 use Rattle.type_desc.specs.declared.desc.TypeDesc.{TypeDesc}
+use Rattle.type_dictionary.specs.Latest.{desc_of, latest_of}
 use Rattle.entity_form.specs.Values.{default_of, kinds_of}
 use Rattle.entity_form.specs.declared.value.Object.{Object}
 use Rattle.entity_form.specs.declared.value.Value.{Value}
 use Rattle.graph_model.specs.Served.{Storage}
-use Rattle.session_model.specs.Types.{desc_at, desc_of, is_root_type, latest_id}
+use Rattle.session_model.specs.Types.{desc_at, is_root_type}
 use Rattle.session_model.specs.Instances.{Instance, put_instance}
 use Rattle.session_model.specs.Answer.{State, Turn, Refusal, answered, bound, fresh, id_in, is_bound, is_full, is_root_name, judged, name_taken, new_turn, no_desc, no_target, no_type, ok, out_of_range, pick_turn, refs_in, reserved, value_of, wrong_kind}
 use Rattle.object_registry.specs.Registered.{unsaved}
@@ -59,36 +60,36 @@ pick_judged memory storage state name member new n at id index old ids (Err _) s
 -- ---- `new`
 
 -- what is left to judge where the name is open
-makes : (state : State) (name type_name : List ℕ) (latest : Option ℕ) (full : Bool) → (is_root_name name || is_root_type type_name) ≡ false → is_bound state name ≡ false → latest_id state.types type_name ≡ latest
+makes : (state : State) (name type_name : List ℕ) (latest : Option ℕ) (full : Bool) → (is_root_name name || is_root_type type_name) ≡ false → is_bound state name ≡ false → latest_of state.types type_name ≡ latest
     → nat_le (2 ^ 48) state.next_id ≡ full
     → new_turn state name type_name ≡ judged state (no_type (is_none latest) ∷ is_full full ∷ [])
     (answered (record (bound state name state.next_id) { next_id = state.next_id + 1; instances = put_instance state.next_id (fresh (unwrap_or latest 0) (unwrap_or (desc_at state.types latest) no_desc)) state.instances }) (codes "new " ++ decimal state.next_id))
 makes state name type_name latest full other free is f =
-    judged_next state (reserved (is_root_name name || is_root_type type_name)) (name_taken (is_bound state name) ∷ no_type (is_none (latest_id state.types type_name)) ∷ is_full (nat_le (2 ^ 48) state.next_id) ∷ []) (effect (latest_id state.types type_name)) other
-    ∙ (judged_next state (name_taken (is_bound state name)) (no_type (is_none (latest_id state.types type_name)) ∷ is_full (nat_le (2 ^ 48) state.next_id) ∷ []) (effect (latest_id state.types type_name)) free
+    judged_next state (reserved (is_root_name name || is_root_type type_name)) (name_taken (is_bound state name) ∷ no_type (is_none (latest_of state.types type_name)) ∷ is_full (nat_le (2 ^ 48) state.next_id) ∷ []) (effect (latest_of state.types type_name)) other
+    ∙ (judged_next state (name_taken (is_bound state name)) (no_type (is_none (latest_of state.types type_name)) ∷ is_full (nat_le (2 ^ 48) state.next_id) ∷ []) (effect (latest_of state.types type_name)) free
     ∙ (ap (λ (o : Option ℕ). judged state (no_type (is_none o) ∷ is_full (nat_le (2 ^ 48) state.next_id) ∷ []) (effect o)) is
     ∙ ap (λ (b : Bool). judged state (no_type (is_none latest) ∷ is_full b ∷ []) (effect latest)) f))
   where
     effect : Option ℕ → Turn
     effect o = answered (record (bound state name state.next_id) { next_id = state.next_id + 1; instances = put_instance state.next_id (fresh (unwrap_or o 0) (unwrap_or (desc_at state.types o) no_desc)) state.instances }) (codes "new " ++ decimal state.next_id)
 
-pub no_type_judged : (memory : Memory) (storage : Storage) (state : State) (name type_name : List ℕ) → StandsAt memory storage state → IsOpen memory.registry name type_name → latest_id memory.types type_name ≡ None
+pub no_type_judged : (memory : Memory) (storage : Storage) (state : State) (name type_name : List ℕ) → StandsAt memory storage state → IsOpen memory.registry name type_name → latest_of memory.types type_name ≡ None
     → IsMaking name (Err (Refused refusals.NoType)) state (new_turn state name type_name)
 no_type_judged memory storage state name type_name at open_ none =
-    makes state name type_name None (nat_le (2 ^ 48) state.next_id) open_.other (free_in memory storage state name at.stands open_.free) (ap (λ (types : List TypeDesc). latest_id types type_name) (sym at.stands.types) ∙ none) refl
+    makes state name type_name None (nat_le (2 ^ 48) state.next_id) open_.other (free_in memory storage state name at.stands open_.free) (ap (λ (types : List TypeDesc). latest_of types type_name) (sym at.stands.types) ∙ none) refl
 
-pub full_judged : (memory : Memory) (storage : Storage) (state : State) (name type_name : List ℕ) (type_id : ℕ) → StandsAt memory storage state → IsOpen memory.registry name type_name → latest_id memory.types type_name ≡ Some type_id
+pub full_judged : (memory : Memory) (storage : Storage) (state : State) (name type_name : List ℕ) (type_id : ℕ) → StandsAt memory storage state → IsOpen memory.registry name type_name → latest_of memory.types type_name ≡ Some type_id
     → 2 ^ 48 ≤ memory.next_id → IsMaking name (Err (Refused refusals.Full)) state (new_turn state name type_name)
 full_judged memory storage state name type_name type_id at open_ is high =
-    makes state name type_name (Some type_id) true open_.other (free_in memory storage state name at.stands open_.free) (ap (λ (types : List TypeDesc). latest_id types type_name) (sym at.stands.types) ∙ is) full
+    makes state name type_name (Some type_id) true open_.other (free_in memory storage state name at.stands open_.free) (ap (λ (types : List TypeDesc). latest_of types type_name) (sym at.stands.types) ∙ is) full
   where
     full : nat_le (2 ^ 48) state.next_id ≡ true
     full = let same = at.stands.next_id in grind (arith, nat_tests)
 
 pub new_judged : (memory : Memory) (storage : Storage) (state : State) (name type_name : List ℕ) (type_id : ℕ) (result : Result Object Stop) → StandsAt memory storage state → IsOpen memory.registry name type_name
-    → latest_id memory.types type_name ≡ Some type_id → memory.next_id < 2 ^ 48 → IsFreshObject memory.types type_id result → IsMaking name result state (new_turn state name type_name)
+    → latest_of memory.types type_name ≡ Some type_id → memory.next_id < 2 ^ 48 → IsFreshObject memory.types type_id result → IsMaking name result state (new_turn state name type_name)
 new_judged memory storage state name type_name type_id (Ok object) at open_ is low made =
-    makes state name type_name (Some type_id) false open_.other (free_in memory storage state name at.stands open_.free) (ap (λ (types : List TypeDesc). latest_id types type_name) (sym at.stands.types) ∙ is) room
+    makes state name type_name (Some type_id) false open_.other (free_in memory storage state name at.stands open_.free) (ap (λ (types : List TypeDesc). latest_of types type_name) (sym at.stands.types) ∙ is) room
     ∙ (ap (λ (o : Option TypeDesc). effect (fresh type_id (unwrap_or o no_desc))) (ap (λ (types : List TypeDesc). desc_of types type_id) (sym at.stands.types) ∙ made.known)
     ∙ ap (λ (o : Object). effect (unsaved o)) (sym object_is))
   where

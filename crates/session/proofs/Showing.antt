@@ -5,11 +5,11 @@ use Rattle.std.proofs.lemmas.List.{length-map}
 use Rattle.type_desc.specs.declared.desc.Kind.{Kind}
 use Rattle.type_desc.specs.declared.desc.Member.{Member}
 use Rattle.type_desc.specs.declared.desc.TypeDesc.{TypeDesc}
+use Rattle.type_dictionary.specs.Latest.{desc_of}
 use Rattle.entity_form.specs.Values.{kind_of}
 use Rattle.graph_export.specs.Line.{line}
 use Rattle.graph_export.proofs.Feedless.{line_no_feed}
 use Rattle.graph_model.specs.Served.{Storage}
-use Rattle.session_model.specs.Types.{desc_of}
 use Rattle.session_model.specs.Instances.{Instance}
 use Rattle.session_model.specs.Answer.{State, answered, desc_of_instance, id_of, is_bound, named_instance, no_desc, no_name, show_turn}
 use Rattle.session.specs.declared.memory.Memory.{Memory}

@@ -14,6 +14,7 @@ use Rattle.type_dictionary.specs.declared.fault.DeclareFault.{DeclareFault}
 use Rattle.type_dictionary.specs.declared.fault.DeclareFault.TheVariants.{TooManyTypes}
 use Rattle.type_dictionary.specs.Declaring.{IsDeclaredAs, IsRecordable}
 use Rattle.type_dictionary.specs.Faults.{RefusesType}
+use Rattle.type_dictionary.specs.Records.{records_from}
 use Rattle.session_model.specs.Types.{is_root_type, repeats_member}
 use Rattle.session_model.specs.Answer.{Refusal, State, Turn, answered, duplicate, is_full, is_known, reserved, type_known, type_new, type_turn}
 use Rattle.session_model.specs.Sound.{IsSound}
@@ -26,7 +27,7 @@ use Rattle.session.specs.declared.refusal.Refusal.TheVariants as refusals
 use Rattle.session.specs.Declarations.{HasNoRoom, IsJudgedType, IsNewType, IsOldType, MayBeDeclared, RepeatsMember}
 use Rattle.session.specs.Due.{Answers, Awaits, Replied, without}
 use Rattle.session.specs.Refusals.{IsRefusal}
-use Rattle.session.specs.Stands.{Admits, StandsAt, records_from}
+use Rattle.session.specs.Stands.{Admits, StandsAt}
 use Rattle.session.proofs.Judged.{judged_first, judged_next, judged_none}
 use Rattle.session.proofs.Lines.{numbered_no_feed}
 use Rattle.session.proofs.Told.{answers_turn}

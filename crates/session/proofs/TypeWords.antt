@@ -11,12 +11,14 @@ use Rattle.type_desc.specs.Grammar.{IsDesc, IsRecord, record_text}
 use Rattle.type_desc.specs.Reading.{record_at}
 use Rattle.type_desc.proofs.Again.{record_again}
 use Rattle.type_desc.proofs.Readers.{ok_is}
+use Rattle.type_desc.specs.OwnNames.{IsNamed, HaveOwnNames}
+use Rattle.type_desc.specs.Root.{root_desc}
 use Rattle.type_dictionary.specs.Declaring.{IsKnownAs, IsNew}
-use Rattle.type_dictionary.specs.OwnNames.{IsNamed, HaveOwnNames}
+use Rattle.type_dictionary.specs.Latest.{desc_of, latest_of}
+use Rattle.type_dictionary.specs.Records.{records_from}
 use Rattle.session_model.specs.Answer.{is_latest}
 use Rattle.session_model.specs.Sound.{AreTypes}
-use Rattle.session_model.specs.Types.{desc_at, desc_of, is_root_type, latest_desc, latest_id, repeats_member, root_type}
-use Rattle.session.specs.Stands.{records_from}
+use Rattle.session_model.specs.Types.{desc_at, is_root_type, latest_desc, repeats_member}
 
 -- ---- repeated names
 
@@ -78,18 +80,18 @@ is_other name e same = let t = (bytes_eq-Decides name (codes "Root")).1 same in 
 
 -- ---- known types
 
-root_spelled : IsDesc root_type
+root_spelled : IsDesc root_desc
 root_spelled = record { name = (refl, refl, omega arith); members = ((refl, refl, omega arith), tt); count = omega arith }
 
 spelled_of : (types : List TypeDesc) → AreTypes types → (id : ℕ) (desc : TypeDesc) → desc_of types id ≡ Some desc → IsDesc desc
 spelled_of types right id desc e = cases (nat_eq id 1) (nat_le 16 id) e
   where
-    cases : (a b : Bool) → cond a (Some root_type) (cond b (slice_get types (id - 16)) None) ≡ Some desc → IsDesc desc
-    cases true b h = let same : root_type ≡ desc = (cc) in subst IsDesc same root_spelled
+    cases : (a b : Bool) → cond a (Some root_desc) (cond b (slice_get types (id - 16)) None) ≡ Some desc → IsDesc desc
+    cases true b h = let same : root_desc ≡ desc = (cc) in subst IsDesc same root_spelled
     cases false true h = (right.each (id - 16) desc h).spelled
     cases false false h = absurd cc
 
-pub known_id : (types : List TypeDesc) (desc : TypeDesc) (id : ℕ) → IsKnownAs types desc id → latest_id types desc.name ≡ Some id
+pub known_id : (types : List TypeDesc) (desc : TypeDesc) (id : ℕ) → IsKnownAs types desc id → latest_of types desc.name ≡ Some id
 known_id types desc id known = known.0
 
 -- a known type is the latest of its name for the model
@@ -100,7 +102,7 @@ known_is_latest types desc id known =
 
 -- and a new one is not
 pub new_is_not_latest : (types : List TypeDesc) (desc : TypeDesc) → AreTypes types → IsDesc desc → IsNew types desc → is_latest (latest_desc types desc.name) desc ≡ false
-new_is_not_latest types desc right is new = by_id (latest_id types desc.name) refl
+new_is_not_latest types desc right is new = by_id (latest_of types desc.name) refl
   where
     same_text : (a : TypeDesc) → IsDesc a → record_text (16, a) ≡ record_text (16, desc) → a ≡ desc
     same_text a a_is e =
@@ -108,18 +110,18 @@ new_is_not_latest types desc right is new = by_id (latest_id types desc.name) re
         let other : IsRecord (16, desc) = record { id = (omega arith, omega arith); desc = is } in
         ap (λ (r : ℕ × TypeDesc). r.1) (ap (λ p. p.0) (ok_is _ _ (sym (record_again (16, a) one) ∙ ap record_at e ∙ record_again (16, desc) other)))
 
-    by_text : (id : ℕ) (a : TypeDesc) (b : Bool) → latest_id types desc.name ≡ Some id → desc_of types id ≡ Some a
+    by_text : (id : ℕ) (a : TypeDesc) (b : Bool) → latest_of types desc.name ≡ Some id → desc_of types id ≡ Some a
         → Decides b (record_text (16, a) ≡ record_text (16, desc)) → b ≡ false
     by_text id a true latest at dec =
         let same = same_text a (spelled_of types right id a at) (dec.0 refl) in
         absurd (new id (latest, at ∙ ap (λ (d : TypeDesc). Some d) same))
     by_text id a false latest at dec = refl
 
-    by_desc : (id : ℕ) (found : Option TypeDesc) → latest_id types desc.name ≡ Some id → desc_of types id ≡ found → is_latest found desc ≡ false
+    by_desc : (id : ℕ) (found : Option TypeDesc) → latest_of types desc.name ≡ Some id → desc_of types id ≡ found → is_latest found desc ≡ false
     by_desc id None latest at = refl
     by_desc id (Some a) latest at = by_text id a (bytes_eq (record_text (16, a)) (record_text (16, desc))) latest at (bytes_eq-Decides (record_text (16, a)) (record_text (16, desc)))
 
-    by_id : (found : Option ℕ) → latest_id types desc.name ≡ found → is_latest (latest_desc types desc.name) desc ≡ false
+    by_id : (found : Option ℕ) → latest_of types desc.name ≡ found → is_latest (latest_desc types desc.name) desc ≡ false
     by_id None e = ap (λ (at : Option ℕ). is_latest (desc_at types at) desc) e
     by_id (Some id) e = ap (λ (at : Option ℕ). is_latest (desc_at types at) desc) e ∙ by_desc id (desc_of types id) e refl
 

@@ -2,9 +2,10 @@
 use Rattle.std.specs.Prelude.{◌≡◌, ◌+◌, ◌==◌, ◌||◌, ℕ, true, false, Result, Ok, Err, List, ◌++◌, codes, Some, None, is_some, map, slice_get, unwrap_or}
 use Rattle.std.specs.Fmt.{decimal}
 use Rattle.type_desc.specs.declared.desc.TypeDesc.{TypeDesc}
+use Rattle.type_dictionary.specs.Latest.{desc_of}
 use Rattle.entity_form.specs.Values.{default_of, kinds_of}
 use Rattle.entity_form.specs.declared.value.Object.{Object}
-use Rattle.session_model.specs.Types.{desc_of, is_root_type}
+use Rattle.session_model.specs.Types.{is_root_type}
 use Rattle.session_model.specs.Instances.{put_instance}
 use Rattle.session_model.specs.Answer.{State, Turn, answered, bound, id_in, is_root_name, ok, ref_in}
 use Rattle.object_registry.specs.Registered.{Registered, unsaved}

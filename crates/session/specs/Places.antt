@@ -1,8 +1,9 @@
 -- Where a line's words lead: to an object that has a name, and to a member of it.
 use Rattle.std.specs.Prelude.{◌≡◌, ℕ, true, false, is_some, Option, Some, None, List, option_and_then, unwrap_or, slice_get}
 use Rattle.type_desc.specs.declared.desc.TypeDesc.{TypeDesc}
+use Rattle.type_dictionary.specs.Latest.{desc_of}
 use Rattle.entity_form.specs.declared.value.Value.{Value}
-use Rattle.session_model.specs.Types.{desc_of, member_index}
+use Rattle.session_model.specs.Types.{member_index}
 use Rattle.session_model.specs.Instances.{Instance, instance_at}
 use Rattle.session_model.specs.Answer.{id_in, is_root_name, no_desc, value_in}
 use Rattle.object_registry.specs.Registered.{Registered}

@@ -1,7 +1,7 @@
 -- The description by which an object is shown.
 use Rattle.std.specs.Prelude.{◌≡◌, Some, List, length}
 use Rattle.type_desc.specs.declared.desc.TypeDesc.{TypeDesc}
-use Rattle.session_model.specs.Types.{desc_of}
+use Rattle.type_dictionary.specs.Latest.{desc_of}
 use Rattle.session_model.specs.Instances.{Instance}
 
 -- the description of the object's type, with as many members as the object has values

@@ -1,19 +1,15 @@
 -- What a session keeps, beside the storage that it asks and the model's state.
-use Rattle.std.specs.Prelude.{◌≡◌, ◌≤◌, ◌<◌, ℕ, ◌+◌, Bool, true, false, List, [], ◌∷◌, length}
+use Rattle.std.specs.Prelude.{◌≡◌, ◌≤◌, ◌<◌, ℕ, ◌+◌, Bool, true, false, List, length}
 use Rattle.graph_model.specs.Graph.{lists}
 use Rattle.graph_model.specs.Served.{Storage, SameIds}
 use Rattle.type_desc.specs.Grammar.{record_text}
 use Rattle.type_desc.specs.declared.desc.TypeDesc.{TypeDesc}
+use Rattle.type_dictionary.specs.Records.{records_from}
 use Rattle.session_model.specs.Instances.{held_ids}
 use Rattle.session_model.specs.Answer.{State}
 use Rattle.session_model.specs.Sound.{IsSound, IsRightType}
 use Rattle.object_registry.specs.Bindings.{SameNames}
 use Rattle.session.specs.declared.memory.Memory.{Memory}
-
--- the records of types, of which the first has this id
-abbrev pub records_from : ℕ → List TypeDesc → List (List ℕ)
-records_from id [] = []
-records_from id (desc ∷ types) = record_text (id, desc) ∷ records_from (id + 1) types
 
 -- the test of type records lets the next record of each right type pass
 abbrev pub Admits : (List (List ℕ) → List ℕ → Bool) → Type 0

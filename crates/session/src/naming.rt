@@ -2,6 +2,7 @@
 
 ghost use Rattle.std.specs.Prelude.{◌≡◌, ◌<◌, ◌^◌, ◌∷◌, ℕ, Bool, List, true, length, IfOk, IsSome, MatchResult, OnOk};
 ghost use Rattle.graph_model.specs.Served.{Storage};
+ghost use Rattle.type_dictionary.specs.Latest.{desc_of};
 ghost use Rattle.session_model.specs.Answer.{State, Turn, drop_turn, home_turn, new_turn, pick_turn};
 ghost use Rattle.session_model.specs.Sound.{IsSound};
 ghost use Rattle.object_registry.specs.Bindings.{SameNames, binding};
@@ -11,7 +12,6 @@ ghost use Rattle.session.specs.Steady.{IsSteadyOutcome, KnowsObjects};
 ghost use Rattle.session.specs.Due.{Meets};
 ghost use Rattle.session.specs.Steps.{IsShort};
 ghost use Rattle.session.specs.Refusals.{Says};
-ghost use Rattle.session_model.specs.Types.{desc_of};
 ghost use Rattle.session.specs.Namings.{IsFreshObject, IsMaking, IsNaming, IsNotOpen, IsOpen, IsTargetAt, IsUnbound, target_of_root};
 
 use crate::answers::{line, numbered_line, outcome_of};

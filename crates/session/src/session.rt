@@ -4,6 +4,7 @@ ghost use Rattle.std.specs.Prelude.{◌≡◌, ◌≤◌, ◌<◌, ◌^◌, ℕ,
 ghost use Rattle.graph_model.specs.Graph.{Graph, lists};
 ghost use Rattle.graph_model.specs.Served.{SameIds, Storage};
 ghost use Rattle.graph_model.specs.declared.ask.Ask.{Ask as AnyAsk};
+ghost use Rattle.type_dictionary.specs.Records.{records_from};
 ghost use Rattle.session_model.specs.Answer.{Turn as TurnDue, opened};
 ghost use Rattle.session_model.specs.Commands.{Tidy, command_of};
 ghost use Rattle.session_model.specs.Sound.{AreTypes, IsRightGraph};
@@ -11,7 +12,7 @@ ghost use Rattle.session.specs.Broken.{IsBrokenWhere, broken_at, broken_by};
 ghost use Rattle.session.specs.Dealing.{AfterPrint, AfterReply, BeginsLine, ComesNearer, Gives, MayGive};
 ghost use Rattle.session.specs.Due.{Meets};
 ghost use Rattle.session.specs.Fitting.{Fits, FitsBehind};
-ghost use Rattle.session.specs.Stands.{Admits, StandsAt, records_from};
+ghost use Rattle.session.specs.Stands.{Admits, StandsAt};
 ghost use Rattle.session.specs.Steady.{IsAskOf, IsSteady, IsSteadyOutcome, IsSteadyWaiting};
 ghost use Rattle.session.specs.Steps.{outcome_steps, steps_left};
 ghost use Rattle.session.specs.declared.session.Given.{Given as AnyGiven};
