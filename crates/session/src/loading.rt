@@ -3,7 +3,6 @@
 ghost use Rattle.std.specs.Prelude.{◌≡◌, ◌≤◌, ◌<◌, ◌+◌, ℕ, Bool, List, Some, None, false, true, length, IfOk, OnOk};
 ghost use Rattle.graph_model.specs.Graph.{Graph, lists};
 ghost use Rattle.graph_model.specs.Served.{Storage};
-ghost use Rattle.graph_model.specs.declared.entity.Entity.{Entity as AnyEntity};
 ghost use Rattle.lazy_refs.specs.Mappings.{AreTypedIn};
 ghost use Rattle.lazy_refs.specs.Walks.{loaded_ids};
 ghost use Rattle.object_registry.specs.Registered.{unsaved};
