@@ -1,6 +1,6 @@
 -- What a session keeps for itself over the steps of a line.
-use Rattle.std.proofs.Common.{◌≡◌, ℕ, true, List, Option, Some, None, Result, Ok, Err, refl, sym, ap, ◌∙◌, subst}
-use Rattle.std.specs.Prelude.{IfOk, is_some}
+use Rattle.std.proofs.Common.{◌≡◌, ℕ, List, Option, Some, None, Result, Ok, Err, refl, sym, ap, ◌∙◌, subst}
+use Rattle.std.specs.Prelude.{IfOk}
 use Rattle.std.proofs.lemmas.Result.{IfOk-weaker}
 use Rattle.graph_model.specs.declared.ask.Ask.{Ask}
 use Rattle.graph_model.specs.declared.ask.Ask.TheVariants as asks
@@ -28,7 +28,7 @@ use Rattle.session.specs.Broken.{IsBrokenAt, Taken, broken_by, broken_by_export,
 use Rattle.session.specs.Due.{SuitsPhase}
 use Rattle.session.specs.Exports.{Exported, GoesOn, IsDueNext}
 use Rattle.session.specs.Fitting.{IsReplyTo, TakesReply}
-use Rattle.session.specs.LoadSteps.{IsFailure, IsLast, IsTypedEnd}
+use Rattle.session.specs.LoadSteps.{IsFailure, IsTypedEnd}
 use Rattle.session.specs.Refusals.{IsOutcomeOf}
 use Rattle.session.specs.Steady.{IsSteadyOutcome, IsSteadyPurpose}
 use Rattle.session.specs.Steps.{IsShort}

@@ -42,7 +42,7 @@ pub record IsSteadyStep (memory : Memory) (loading : Progress) (step : LoadStep)
   pub asks : IsAskedNext loading step
   pub steady : IsSteadyPurpose memory purpose
 
--- what a phase keeps while its reply is waited for
+-- what a phase keeps while its reply is waited for: an export has asked for an id
 abbrev pub IsSteadyPhase : Memory → Phase → Type 0
 IsSteadyPhase memory (phases.Looking loading purpose) = IsSteadyLoading memory loading × IsSteadyPurpose memory purpose
 IsSteadyPhase memory (phases.Holding purpose) = IsSteadyPurpose memory purpose
@@ -59,10 +59,12 @@ abbrev pub IsAskOf : Ask → Outcome → Type 0
 IsAskOf asked (outcomes.Ask ask phase) = ask ≡ asked
 IsAskOf asked _ = ⊥
 
+-- what a session keeps while it waits
 abbrev pub IsSteadyWaiting : Memory → Waiting → Type 0
 IsSteadyWaiting memory (waits.ForReply phase) = IsSteadyPhase memory phase
 IsSteadyWaiting memory _ = Unit {0}
 
+-- and with it the objects in memory are known
 pub record IsSteady (session : Session) : Type 0 where
   pub known : KnowsObjects session.memory
   pub waiting : IsSteadyWaiting session.memory session.waiting

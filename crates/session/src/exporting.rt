@@ -1,6 +1,6 @@
 //! The line `export`, as a machine of its own: it is given the entities that it asks for, and gives the lines one after another.
 
-ghost use Rattle.std.specs.Prelude.{◌≡◌, ◌≤◌, ◌<◌, ◌++◌, ◌∷◌, [], ℕ, Bool, List, Some, None, true, false, is_some, IfOk, OnOk, MatchOption};
+ghost use Rattle.std.specs.Prelude.{◌≡◌, ◌≤◌, ◌<◌, ◌++◌, ◌∷◌, [], ℕ, List, Some, None, true, false, is_some, IfOk, OnOk, MatchOption};
 ghost use Rattle.graph_model.specs.Graph.{Graph, entity_of, lists};
 ghost use Rattle.graph_model.specs.Ids.{has};
 ghost use Rattle.graph_model.specs.declared.entity.Entity.{Entity as AnyEntity};

@@ -1,6 +1,6 @@
 //! A session: it takes the lines of a script, and gives what is to be asked of a storage and what is to be printed.
 
-ghost use Rattle.std.specs.Prelude.{◌≡◌, ◌≤◌, ◌<◌, ◌^◌, ℕ, Bool, List, [], true, Some, None, length, IfOk, OnOk};
+ghost use Rattle.std.specs.Prelude.{◌≡◌, ◌≤◌, ◌<◌, ◌^◌, ℕ, Bool, List, [], true, Some, None, IfOk};
 ghost use Rattle.graph_model.specs.Graph.{Graph, lists};
 ghost use Rattle.graph_model.specs.Served.{SameIds, Storage};
 ghost use Rattle.graph_model.specs.declared.ask.Ask.{Ask as AnyAsk};
