@@ -5,9 +5,9 @@ use Rattle.std.proofs.lemmas.List.{length-map}
 use Rattle.graph_model.specs.declared.entity.Entity.{Entity}
 use Rattle.type_desc.specs.declared.desc.Kind.{Kind}
 use Rattle.type_desc.specs.declared.desc.TypeDesc.{TypeDesc}
+use Rattle.type_dictionary.specs.Latest.{desc_of}
 use Rattle.entity_form.specs.Values.{AreOf, kind_of, kinds_of}
 use Rattle.entity_form.specs.declared.value.Object.{Object}
-use Rattle.session_model.specs.Types.{desc_of}
 use Rattle.session_model.specs.Instances.{Instances}
 use Rattle.session_model.specs.Sound as model
 use Rattle.object_registry.specs.Registered.{loaded, put_loaded}

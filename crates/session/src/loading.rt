@@ -3,13 +3,13 @@
 ghost use Rattle.std.specs.Prelude.{◌≡◌, ◌≤◌, ◌<◌, ◌+◌, ℕ, Bool, List, Some, None, false, true, length, IfOk, OnOk};
 ghost use Rattle.graph_model.specs.Graph.{Graph, lists};
 ghost use Rattle.graph_model.specs.Served.{Storage};
+ghost use Rattle.type_desc.specs.Root.{root_desc};
 ghost use Rattle.lazy_refs.specs.Mappings.{AreTypedIn};
 ghost use Rattle.lazy_refs.specs.Walks.{loaded_ids};
 ghost use Rattle.object_registry.specs.Registered.{unsaved};
 ghost use Rattle.session_model.specs.Answer.{State, Turn, command_turn, first_instances, follow_turn, fresh, started_turn};
 ghost use Rattle.session_model.specs.Commands.{Command as AnyCommand};
 ghost use Rattle.session_model.specs.Sound.{IsSound};
-ghost use Rattle.session_model.specs.Types.{root_type};
 ghost use Rattle.script_text.specs.Meaning.{meant};
 ghost use Rattle.storer.specs.Gathered.{IsKnown};
 ghost use Rattle.session.specs.Stands.{StandsAt};
@@ -151,7 +151,7 @@ pub fn load_root(memory: &mut Memory, command: Command) -> Result<Outcome, NoMem
 
 /// A root without a target.
 fn root_object(memory: &Memory) -> Result<Object, NoMemory>
-    ensures fresh { IfOk result (λ root. unsaved root ≡ fresh 1 root_type) }
+    ensures fresh { IfOk result (λ root. unsaved root ≡ fresh 1 root_desc) }
     ensures known { IfOk result (IsKnown memory.now.types) }
 {
     match memory.types.by_id(1) {
