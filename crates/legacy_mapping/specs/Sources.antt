@@ -1,5 +1,5 @@
 -- Where the value of each member of a type comes from, when an object of an older type becomes one of it.
-use Rattle.std.specs.Prelude.{ℕ, List, Option, Some, None}
+use Rattle.std.specs.Prelude.{◌≡◌, ℕ, List, Option, Some, None, slice_get}
 use Rattle.std.specs.List.{AllZip}
 use Rattle.type_desc.specs.declared.desc.TypeDesc.{TypeDesc}
 use Rattle.type_desc.specs.OwnNames.{names_of, IsNamed}
