@@ -8,12 +8,17 @@ use Rattle.graph_model.specs.Ids.{has}
 use Rattle.graph_model.specs.Served.{SameIds}
 use Rattle.graph_model.specs.declared.memory.NoMemory.{NoMemory}
 use Rattle.type_desc.specs.declared.desc.TypeDesc.{TypeDesc}
-use Rattle.type_dictionary.specs.Records.{IsRecorded, records_from}
+use Rattle.type_dictionary.specs.Records.{IsRecorded}
 use Rattle.session_model.specs.Sound.{AreTypes, IsRightGraph, IsRightType}
 use Rattle.session_model.specs.Types.{is_root_type}
 use Rattle.session_model.specs.Answer.{State}
 use Rattle.session.specs.Dealing.{AwaitsLine}
-use Rattle.session.specs.Stands.{StandsAt}
+use Rattle.session.specs.Fitting.{Fits}
+use Rattle.session.specs.Stands.{StandsAt, records_from}
+use Rattle.session.specs.Steady.{IsSteady}
+use Rattle.session.specs.declared.outcome.Waiting.{Waiting}
+use Rattle.session.specs.declared.outcome.Waiting.TheVariants as waits
+use Rattle.session.specs.declared.session.Given.TheVariants as given
 use Rattle.session.specs.declared.session.Session.{Session}
 use Rattle.session.proofs.TypeWords.{none_repeated}
 use Rattle.plain_storage.specs.Keeping.{IsStart, Keeps, Plain, held_in, storage_of}
@@ -57,11 +62,18 @@ right_graph p types start = record {
 pub none_held : (p : Plain) (types : List TypeDesc) → IsStart p types → SameIds p.held []
 none_held p types start x = ap (λ (l : List ℕ). has x l) start.none_held
 
+-- a line fits where one is awaited, and nowhere else
+awaits_line : (waiting : Waiting) → ((text : List ℕ) → Fits (given.Line text) waiting) → AwaitsLine waiting
+awaits_line waits.ForLine fits = tt
+awaits_line (waits.ForReply phase) fits = fits []
+awaits_line waits.ForPrinted fits = fits []
+awaits_line (waits.ForNextLine export) fits = fits []
+
 -- a session that waits for its first line, and stands at the start
-pub first_at : (p : Plain) (state : State) (r : Result Session NoMemory) → IfOk r (λ session. AwaitsLine session.waiting)
+pub first_at : (p : Plain) (state : State) (r : Result Session NoMemory) → IfOk r IsSteady → IfOk r (λ session. (text : List ℕ) → Fits (given.Line text) session.waiting)
     → IfOk r (λ session. StandsAt session.memory (storage_of p (records_from 16 state.types)) state) → IfOk r (λ session. IsAt session p state)
-first_at p state (Ok session) waits stands = record { waits = waits; stands = stands }
-first_at p state (Err e) waits stands = tt
+first_at p state (Ok session) steady fits stands = record { steady = steady; waits = awaits_line session.waiting fits; stands = stands }
+first_at p state (Err e) steady fits stands = tt
 
 -- and all stands at the start
 pub first_stands : (p : Plain) (types : List TypeDesc) (session : Session) (reads : ℕ → List ℕ) → IsAt session p (opened_on (held_in p types)) → Keeps p types reads → StandsBehind (held_in p types) [] session p reads

@@ -6,12 +6,11 @@ use Rattle.graph_model.specs.declared.ask.Reply.{Reply}
 use Rattle.graph_model.specs.declared.entity.StoreOp.{StoreOp}
 use Rattle.graph_model.specs.Served.{Served, Storage}
 use Rattle.type_desc.specs.declared.desc.TypeDesc.{TypeDesc}
-use Rattle.type_dictionary.specs.Records.{records_from}
 use Rattle.session_model.specs.Answer.{State, Turn}
 use Rattle.session.specs.Dealing.{AfterReply, AwaitsLine, Gives, IsDone, Prints}
 use Rattle.session.specs.Due.{without}
-use Rattle.session.specs.Exports.{IsLine}
-use Rattle.session.specs.Stands.{StandsAt}
+use Rattle.session.specs.Lines.{IsLine}
+use Rattle.session.specs.Stands.{StandsAt, records_from}
 use Rattle.session.specs.declared.session.Given.TheVariants as given
 use Rattle.session.specs.declared.session.Session.{Session}
 use Rattle.session.specs.declared.session.Turn.TheVariants as step
@@ -108,7 +107,7 @@ is_behind line due put held (inl before) makes records stores =
 -- ---- behind a print
 
 more_lines : (put line : List ℕ) → IsLine line → EndsLine (put ++ line)
-more_lines put line is = inr (put ++ is.0, ap (λ (l : List ℕ). put ++ l) is.1 ∙ sym (append_assoc put is.0 (10 ∷ [])))
+more_lines put line is = inr (put ++ is.text, ap (λ (l : List ℕ). put ++ l) is.bytes_is ∙ sym (append_assoc put is.text (10 ∷ [])))
 
 pub printed_within : (told kept : Bool) (line : LineBegun) (text : List ℕ) (session : Session) (plain : Plain) (reads : ℕ → List ℕ) (written new_written : List ℕ)
     → IsWithin told kept line (Gives any_record (step.Print text) session) plain reads written → (IsTrue told → new_written ≡ written ++ text)

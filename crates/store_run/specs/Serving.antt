@@ -1,9 +1,9 @@
 -- A session over a plain storage, between two lines and within one.
 use Rattle.std.specs.Prelude.{◌≡◌, ◌≢◌, ◌<◌, ℕ, Bool, List, [], ◌++◌, length}
-use Rattle.type_dictionary.specs.Records.{records_from}
 use Rattle.session_model.specs.Answer.{State, Turn}
 use Rattle.session.specs.Dealing.{AwaitsLine}
-use Rattle.session.specs.Stands.{StandsAt}
+use Rattle.session.specs.Stands.{StandsAt, records_from}
+use Rattle.session.specs.Steady.{IsSteady}
 use Rattle.session.specs.declared.session.Session.{Session}
 use Rattle.plain_storage.specs.Held.{IsPlainStored, PlainHeld}
 use Rattle.plain_storage.specs.Images.{EachPair}
@@ -14,8 +14,9 @@ use Rattle.store_run.specs.Run.{EndsLine}
 use Rattle.store_run.specs.declared.stop.Stop.{Stop}
 use Rattle.store_run.specs.declared.stop.Stop.TheVariants.{WriteFault, Full}
 
--- the session waits for a line, and stands over the storage at this state
+-- the session is steady and waits for a line, and stands over the storage at this state
 pub record IsAt (session : Session) (plain : Plain) (state : State) : Type 0 where
+  pub steady : IsSteady session
   pub waits : AwaitsLine session.waiting
   pub stands : StandsAt session.memory (storage_of plain (records_from 16 state.types)) state
 

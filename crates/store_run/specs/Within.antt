@@ -102,8 +102,8 @@ MayCarry plain step.Done = Unit {0}
 MayCarry plain (step.Broken id) = ⊥
 
 -- no line is given, and the end is no farther
-abbrev pub IsSteady : Option Given → (before now : ℕ) → Type 0
-IsSteady (Some (given.Line text)) before now = ⊥
-IsSteady (Some (given.Reply reply)) before now = now ≤ before
-IsSteady (Some given.Printed) before now = now ≤ before
-IsSteady None before now = Unit {0}
+abbrev pub IsNoFarther : Option Given → (before now : ℕ) → Type 0
+IsNoFarther (Some (given.Line text)) before now = ⊥
+IsNoFarther (Some (given.Reply reply)) before now = now ≤ before
+IsNoFarther (Some given.Printed) before now = now ≤ before
+IsNoFarther None before now = Unit {0}

@@ -11,7 +11,7 @@ ghost use Rattle.plain_storage.specs.Keeping.{AreOpen, Keeps, held_in, storage_o
 ghost use Rattle.plain_storage.specs.Logs.{HasFullLog};
 ghost use Rattle.store_run.specs.Answer.{held_behind};
 ghost use Rattle.store_run.specs.Serving.{IsAt, IsTurnCut};
-ghost use Rattle.store_run.specs.Within.{IsSteady, IsWithin, LineBegun, MayCarry, StandsFor, any_record};
+ghost use Rattle.store_run.specs.Within.{IsNoFarther, IsWithin, LineBegun, MayCarry, StandsFor, any_record};
 
 use crate::stop::Stop;
 use graph_model::Bytes;
@@ -33,7 +33,7 @@ fn carry_on<K: Sink, D: Disk>(
         → IsWithin K.tells kept line (Gives any_record step session) plain.old (D.reads disk.old) (K.written sink.old)
         → IfOk result (λ next. IsWithin K.tells kept line (StandsFor next session) plain.new (D.reads disk.new) (K.written sink.new)) }
     ensures steady { (session : AnySession) (types : List (List ℕ)) (due : TurnDue) → Gives any_record step session (storage_of plain.old types) due
-        → IfOk result (λ next. IsSteady next (steps_left session.waiting plain.old.graph) (steps_left session.waiting plain.new.graph)) }
+        → IfOk result (λ next. IsNoFarther next (steps_left session.waiting plain.old.graph) (steps_left session.waiting plain.new.graph)) }
     ensures logs { IsTrue D.tells → OnOk result (AreOpen plain.new (D.reads disk.new)) }
     ensures clean { IsTrue D.tells → AreClean (D.reads disk.old) (D.leaves disk.old) → OnOk result (AreClean (D.reads disk.new) (D.leaves disk.new)) }
     ensures others { IsTrue D.tells → OtherFilesStay (D.reads disk.old) (D.reads disk.new) (D.leaves disk.old) (D.leaves disk.new) }

@@ -8,11 +8,11 @@ use Rattle.session.specs.Steps.{steps_left}
 use Rattle.session.specs.declared.session.Given.TheVariants as given
 use Rattle.plain_storage.specs.Keeping.{held_in, storage_of}
 use Rattle.store_run.specs.Serving.{IsTurnCut}
-use Rattle.store_run.specs.Within.{IsSteady, IsWithin, StandsFor, any_record}
+use Rattle.store_run.specs.Within.{IsNoFarther, IsWithin, StandsFor, any_record}
 use Rattle.store_run.specs.declared.stop.Stop.{Stop}
 use Rattle.store_run.specs.declared.stop.Stop.TheVariants as stop
 use Rattle.store_run.proofs.AskedWithin.{step_may}
-use Rattle.store_run.proofs.BeginsWithin.{any_admitted, begun_at, comes_nearer, line_begins, may_give, not_kept, others_stay}
+use Rattle.store_run.proofs.BeginsWithin.{any_admitted, begun_at, comes_nearer, fits_within, line_begins, not_kept, others_stay}
 use Rattle.store_run.proofs.CutWithin.{within_cut}
 use Rattle.store_run.proofs.StepsWithin.{through, within_so}
 use Rattle.store_run.proofs.Stops.{if_stopped, memory_is_not_full}
@@ -37,7 +37,7 @@ next-requires g c =
     let written = g.K.Sink.written c.args.sink.now in
     let reads = g.D.Disk.reads c.args.disk.now in
     let begins = line_begins false false at.0 c.args.session.now c.args.plain.now c.args.line.now c.new-text.result reads written at.1 (λ k. not_kept k) same in
-    record { waited = may_give false false (begun_at at.0 c.args.plain.now c.args.line.now written) (given.Line c.new-text.result) c.args.session.now c.args.plain.now reads written begins }
+    record { steady = at.1.steady; fits = fits_within false false (begun_at at.0 c.args.plain.now c.args.line.now written) (given.Line c.new-text.result) c.args.session.now c.args.plain.now reads written begins }
 
 pub returns-in_err-step-clause-stop : goal.returns-in_err-step-clause-stop
 returns-in_err-step-clause-stop g c answers tells clean now at keeps =
@@ -60,6 +60,7 @@ steps-init g c =
           within_so g.K.Sink.tells kept (begun_at now c.args.plain.now c.args.line.now written) (StandsFor (Some (given.Line c.new-text.result)) c.args.session.now)
           (Gives any_record c.in_ok-step.step c.next.new.self) c.args.plain.now reads written (λ storage due may. c.in_ok-step.ensures.gives any_record storage due any_admitted may)
           (line_begins g.K.Sink.tells kept now c.args.session.now c.args.plain.now c.args.line.now c.new-text.result reads written at keeps same);
+      steady = c.in_ok-step.ensures.steady;
       logs = c.requires.logs;
       clean = λ tells clean. clean;
       others = λ tells. record { reads = λ f a b. refl; leaves = λ f a b. refl };
@@ -95,7 +96,7 @@ next-requires-in-Some g c =
     let written = g.K.Sink.written c.carry_on.new.sink in
     let within = c.in_ok-given.ensures.carried c.steps.session false line (λ k. not_kept k) (c.steps.invariant.within at.0 at.1 false (λ k. not_kept k) (λ k. not_kept k)) in
     let given_now = subst (λ (o : Option _). IsWithin g.K.Sink.tells false line (StandsFor o c.steps.session) c.carry_on.new.plain reads written) c.in-Some.is within in
-    record { waited = may_give g.K.Sink.tells false line c.in-Some.given c.steps.session c.carry_on.new.plain reads written given_now }
+    record { steady = c.steps.invariant.steady; fits = fits_within g.K.Sink.tells false line c.in-Some.given c.steps.session c.carry_on.new.plain reads written given_now }
 
 pub returns-in_err-step-2-clause-stop : goal.returns-in_err-step-2-clause-stop
 returns-in_err-step-2-clause-stop g c answers tells clean now at keeps =
@@ -120,7 +121,7 @@ steps-smaller g c =
     let steady = c.in_ok-given.ensures.steady c.steps.session (records_from 16 here.types) here.due here.stands in
     comes_nearer c.in-Some.given (steps_left c.steps.session.waiting c.steps.plain.graph) (steps_left c.steps.session.waiting c.carry_on.new.plain.graph)
     (steps_left c.next-in-Some.new.self.waiting c.carry_on.new.plain.graph)
-    (subst (λ (o : Option _). IsSteady o (steps_left c.steps.session.waiting c.steps.plain.graph) (steps_left c.steps.session.waiting c.carry_on.new.plain.graph)) c.in-Some.is steady)
+    (subst (λ (o : Option _). IsNoFarther o (steps_left c.steps.session.waiting c.steps.plain.graph) (steps_left c.steps.session.waiting c.carry_on.new.plain.graph)) c.in-Some.is steady)
     (c.in_ok-step-2.ensures.nearer (storage_of c.carry_on.new.plain (records_from 16 given_now.types)) given_now.due given_now.stands)
 
 pub steps-preserved : goal.steps-preserved
@@ -133,6 +134,7 @@ steps-preserved g c = record {
       let given_now = subst (λ (o : Option _). IsWithin g.K.Sink.tells kept line (StandsFor o c.steps.session) c.carry_on.new.plain reads written) c.in-Some.is within in
       within_so g.K.Sink.tells kept line (StandsFor (Some c.in-Some.given) c.steps.session) (Gives any_record c.in_ok-step-2.step c.next-in-Some.new.self) c.carry_on.new.plain reads written
       (λ storage due may. c.in_ok-step-2.ensures.gives any_record storage due any_admitted may) given_now;
+  steady = c.in_ok-step-2.ensures.steady;
   logs = c.in_ok-given.ensures.logs;
   clean = λ tells clean. c.in_ok-given.ensures.clean tells (c.steps.invariant.clean tells clean);
   others = λ tells. others_stay (g.D.Disk.reads c.args.disk.now) (g.D.Disk.reads c.steps.disk) (g.D.Disk.reads c.carry_on.new.disk) (g.D.Disk.leaves c.args.disk.now) (g.D.Disk.leaves c.steps.disk)
@@ -151,7 +153,7 @@ returns-clause-at g c now at =
     let within = c.in_ok-given.ensures.carried c.steps.session false line (λ k. not_kept k) (c.steps.invariant.within now at false (λ k. not_kept k) (λ k. not_kept k)) in
     let ended = through g.K.Sink.tells false line c.steps.session c.carry_on.new.plain reads written
     (subst (λ (o : Option _). IsWithin g.K.Sink.tells false line (StandsFor o c.steps.session) c.carry_on.new.plain reads written) c.in_default.is within) in
-    record { waits = ended.waits; stands = ended.stands }
+    record { steady = c.steps.invariant.steady; waits = ended.waits; stands = ended.stands }
 
 pub returns-clause-answered : goal.returns-clause-answered
 returns-clause-answered g c answers now at =

@@ -2,6 +2,7 @@
 use Rattle.std.proofs.Common.{◌≤◌, Bool, IsTrue}
 use Rattle.session_model.specs.Answer.{State}
 use Rattle.session.specs.Dealing.{Gives}
+use Rattle.session.specs.Steady.{IsSteady}
 use Rattle.session.specs.Steps.{steps_left}
 use Rattle.plain_storage.specs.Images.{AreClean, OtherFilesStay}
 use Rattle.plain_storage.specs.Keeping.{AreOpen, Keeps}
@@ -14,6 +15,7 @@ abbrev pub invariant-steps : goal.invariant-steps
 invariant-steps g l = record {
   within : (now : State) → IsAt l.fn.session l.fn.plain now → (kept : Bool) → (IsTrue kept → IsTrue g.D.Disk.tells) → (IsTrue kept → Keeps l.fn.plain now.types (g.D.Disk.reads l.fn.disk))
       → IsWithin g.K.Sink.tells kept (begun_at now l.fn.plain l.fn.line (g.K.Sink.written l.fn.sink)) (Gives any_record l.step l.session) l.plain (g.D.Disk.reads l.disk) (g.K.Sink.written l.sink);
+  steady : IsSteady l.session;
   logs : IsTrue g.D.Disk.tells → AreOpen l.plain (g.D.Disk.reads l.disk);
   clean : IsTrue g.D.Disk.tells → AreClean (g.D.Disk.reads l.fn.disk) (g.D.Disk.leaves l.fn.disk) → AreClean (g.D.Disk.reads l.disk) (g.D.Disk.leaves l.disk);
   others : IsTrue g.D.Disk.tells → OtherFilesStay (g.D.Disk.reads l.fn.disk) (g.D.Disk.reads l.disk) (g.D.Disk.leaves l.fn.disk) (g.D.Disk.leaves l.disk);

@@ -19,6 +19,6 @@ returns c =
     let stands = c.new.ensures.stands storage (right_types plain types start) (omega (arith, next, start.low)) (omega (arith, next, start.high))
     (subst (λ (n : ℕ). IsRightGraph types n plain.graph) (sym next) (right_graph plain types start)) c.is_rooted-rooted.ensures (none_held plain types start) (omega (arith, next)) refl in
     record {
-      at = first_at plain (opened_on (held_in plain types)) c.new.result c.new.ensures.waits
+      at = first_at plain (opened_on (held_in plain types)) c.new.result c.new.ensures.steady c.new.ensures.fits
           (subst (λ (n : ℕ). IfOk c.new.result (λ session. StandsAt session.memory storage (opened types plain.graph plain.stores_log.count n))) next stands);
     }
