@@ -3,12 +3,13 @@ use Rattle.std.proofs.Common.{◌≡◌, ◌<◌, ℕ, Bool, false, IsTrue, Some
 use Rattle.graph_model.specs.Served.{Storage}
 use Rattle.graph_model.specs.declared.ask.Reply.{Reply}
 use Rattle.graph_model.specs.declared.ask.Reply.TheVariants as replies
+use Rattle.type_dictionary.specs.Records.{records_from}
 use Rattle.session_model.specs.Answer.{State, Turn, turn}
 use Rattle.session.specs.Dealing.{AfterPrint, AfterReply, AwaitsLine, ComesNearer, MayGive}
 use Rattle.session.specs.Due.{Replied}
 use Rattle.session.specs.Fitting.{Fits, TakesReply}
 use Rattle.session.specs.Limits.{most_bytes}
-use Rattle.session.specs.Stands.{Admits, records_from}
+use Rattle.session.specs.Stands.{Admits}
 use Rattle.session.specs.declared.memory.Memory.{Memory}
 use Rattle.session.specs.declared.outcome.Phase.{Phase}
 use Rattle.session.specs.declared.outcome.Phase.TheVariants as phases

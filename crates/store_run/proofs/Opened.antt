@@ -8,13 +8,13 @@ use Rattle.graph_model.specs.Ids.{has}
 use Rattle.graph_model.specs.Served.{SameIds}
 use Rattle.graph_model.specs.declared.memory.NoMemory.{NoMemory}
 use Rattle.type_desc.specs.declared.desc.TypeDesc.{TypeDesc}
-use Rattle.type_dictionary.specs.Records.{IsRecorded}
+use Rattle.type_dictionary.specs.Records.{IsRecorded, records_from}
 use Rattle.session_model.specs.Sound.{AreTypes, IsRightGraph, IsRightType}
 use Rattle.session_model.specs.Types.{is_root_type}
 use Rattle.session_model.specs.Answer.{State}
 use Rattle.session.specs.Dealing.{AwaitsLine}
 use Rattle.session.specs.Fitting.{Fits}
-use Rattle.session.specs.Stands.{StandsAt, records_from}
+use Rattle.session.specs.Stands.{StandsAt}
 use Rattle.session.specs.Steady.{IsSteady}
 use Rattle.session.specs.declared.outcome.Waiting.{Waiting}
 use Rattle.session.specs.declared.outcome.Waiting.TheVariants as waits

@@ -6,11 +6,12 @@ use Rattle.graph_model.specs.declared.ask.Reply.{Reply}
 use Rattle.graph_model.specs.declared.entity.StoreOp.{StoreOp}
 use Rattle.graph_model.specs.Served.{Served, Storage}
 use Rattle.type_desc.specs.declared.desc.TypeDesc.{TypeDesc}
+use Rattle.type_dictionary.specs.Records.{records_from}
 use Rattle.session_model.specs.Answer.{State, Turn}
 use Rattle.session.specs.Dealing.{AfterReply, AwaitsLine, Gives, IsDone, Prints}
 use Rattle.session.specs.Due.{without}
 use Rattle.session.specs.Lines.{IsLine}
-use Rattle.session.specs.Stands.{StandsAt, records_from}
+use Rattle.session.specs.Stands.{StandsAt}
 use Rattle.session.specs.declared.session.Given.TheVariants as given
 use Rattle.session.specs.declared.session.Session.{Session}
 use Rattle.session.specs.declared.session.Turn.TheVariants as step

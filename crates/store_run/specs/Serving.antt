@@ -1,8 +1,9 @@
 -- A session over a plain storage, between two lines and within one.
 use Rattle.std.specs.Prelude.{◌≡◌, ◌≢◌, ◌<◌, ℕ, Bool, List, [], ◌++◌, length}
+use Rattle.type_dictionary.specs.Records.{records_from}
 use Rattle.session_model.specs.Answer.{State, Turn}
 use Rattle.session.specs.Dealing.{AwaitsLine}
-use Rattle.session.specs.Stands.{StandsAt, records_from}
+use Rattle.session.specs.Stands.{StandsAt}
 use Rattle.session.specs.Steady.{IsSteady}
 use Rattle.session.specs.declared.session.Session.{Session}
 use Rattle.plain_storage.specs.Held.{IsPlainStored, PlainHeld}
