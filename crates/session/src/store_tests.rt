@@ -1,6 +1,6 @@
 //! Examples of lines that store.
 
-ghost use Rattle.std.specs.Prelude.{IfOk, OnOk};
+ghost use Rattle.std.specs.Prelude.{IfOk, IsOk, OnOk};
 ghost use Rattle.session.specs.Steady.{KnowsObjects};
 
 use crate::fixtures::{begun, put};
@@ -23,7 +23,7 @@ fn begun_with_two(alloc: Global) -> Result<Memory, NoMemory>
     Ok(begun(alloc, types, registry, 1025))
 }
 
-fn asks_for(outcome: &Outcome, ids: &[u64]) -> bool {
+fn stores_ids(outcome: &Outcome, ids: &[u64]) -> bool {
     match outcome {
         Outcome::Ask(Ask::Store(op), Phase::Storing(count)) => {
             let records = op.records.as_slice();
@@ -35,39 +35,28 @@ fn asks_for(outcome: &Outcome, ids: &[u64]) -> bool {
     }
 }
 
-/// Whether `store NAME` asks the storage to store these ids.
-fn stores(memory: &mut Memory, name: &str, ids: &[u64]) -> Result<bool, Fail>
-    requires { KnowsObjects memory.old }
-    ensures { OnOk result (KnowsObjects memory.new) }
+/// Whether the storage is asked to store these ids.
+fn asks_for(outcome: Result<Outcome, NoMemory>, ids: &[u64]) -> Result<bool, NoMemory>
+    ensures { OnOk result (IsOk outcome) }
 {
-    let outcome = store(memory, &Text::new(memory.alloc, name)?)?;
-    Ok(asks_for(&outcome, ids))
+    Ok(stores_ids(&outcome?, ids))
 }
 
-/// Whether `store-all NAME` asks the storage to store these ids.
-fn stores_all(memory: &mut Memory, name: &str, ids: &[u64]) -> Result<bool, Fail>
-    requires { KnowsObjects memory.old }
-    ensures { OnOk result (KnowsObjects memory.new) }
+/// Whether the line is answered at once.
+fn is_answered(outcome: Result<Outcome, NoMemory>) -> Result<bool, NoMemory>
+    ensures { OnOk result (IsOk outcome) }
 {
-    let outcome = store_all(memory, &Text::new(memory.alloc, name)?)?;
-    Ok(asks_for(&outcome, ids))
-}
-
-/// Whether `store NAME` is answered at once.
-fn is_answered(memory: &mut Memory, name: &str) -> Result<bool, Fail>
-    requires { KnowsObjects memory.old }
-    ensures { OnOk result (KnowsObjects memory.new) }
-{
-    let outcome = store(memory, &Text::new(memory.alloc, name)?)?;
-    Ok(matches!(&outcome, Outcome::Answer(_)))
+    Ok(matches!(&outcome?, Outcome::Answer(_)))
 }
 
 #[test]
 fn the_root_is_stored(rt: HostRuntime) -> Result<(), Fail> {
-    let mut memory = begun_with_two(rt.alloc())?;
-    assert!(rt; stores(&mut memory, "root", &[1, 1024])?);
-    assert!(rt; stores(&mut memory, "root", &[1])?);
-    assert!(rt; stores_all(&mut memory, "root", &[1, 1024])?);
-    assert!(rt; is_answered(&mut memory, "p")?);
+    let alloc = rt.alloc();
+    let mut memory = begun_with_two(alloc)?;
+    let (root, p) = (Text::new(alloc, "root")?, Text::new(alloc, "p")?);
+    assert!(rt; asks_for(store(&mut memory, &root), &[1, 1024])?);
+    assert!(rt; asks_for(store(&mut memory, &root), &[1])?);
+    assert!(rt; asks_for(store_all(&mut memory, &root), &[1, 1024])?);
+    assert!(rt; is_answered(store(&mut memory, &p))?);
     Ok(())
 }

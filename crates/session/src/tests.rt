@@ -1,6 +1,6 @@
 //! Examples of lines.
 
-ghost use Rattle.std.specs.Prelude.{IfOk, OnOk};
+ghost use Rattle.std.specs.Prelude.{IfOk, IsOk, OnOk};
 ghost use Rattle.type_desc.specs.Grammar.{IsDesc};
 ghost use Rattle.session.specs.Steady.{KnowsObjects};
 
@@ -9,17 +9,24 @@ use crate::{
     Memory, Outcome, Phase, Refusal, add_to, collect, cut_from, declare_type, drop_name, forget,
     home, new, pick, set_member, set_root, show, tidy,
 };
-use graph_model::Ask;
+use graph_model::{Ask, NoMemory};
 use script_text::{Index, Target};
 use std::alloc::Global;
 use std::test::Fail;
 use type_desc::{DescFault, Text, TypeDesc, read_desc};
 
-fn says(outcome: &Outcome, text: &str) -> bool {
+fn is_answer(outcome: &Outcome, text: &str) -> bool {
     match outcome {
         Outcome::Answer(bytes) => bytes.as_slice() == text.as_bytes(),
         _ => false,
     }
+}
+
+/// Whether the line is answered so.
+fn says(outcome: Result<Outcome, NoMemory>, text: &str) -> Result<bool, NoMemory>
+    ensures { OnOk result (IsOk outcome) }
+{
+    Ok(is_answer(&outcome?, text))
 }
 
 /// Whether a new `Point` of this name is answered so.
@@ -28,12 +35,8 @@ fn makes_point(memory: &mut Memory, name: &str, answer: &str) -> Result<bool, Fa
     ensures { OnOk result (KnowsObjects memory.new) }
 {
     let alloc = memory.alloc;
-    let outcome = new(
-        memory,
-        &Text::new(alloc, name)?,
-        &Text::new(alloc, "Point")?,
-    )?;
-    Ok(says(&outcome, answer))
+    let (name, point) = (Text::new(alloc, name)?, Text::new(alloc, "Point")?);
+    Ok(says(new(memory, &name, &point), answer)?)
 }
 
 /// Whether `set p x REST` is answered so.
@@ -43,13 +46,13 @@ fn sets(memory: &mut Memory, rest: &str, answer: &str) -> Result<bool, Fail>
 {
     let alloc = memory.alloc;
     let (name, member) = (Text::new(alloc, "p")?, Text::new(alloc, "x")?);
-    let outcome = set_member(memory, &name, &member, Text::new(alloc, rest)?)?;
-    Ok(says(&outcome, answer))
+    let rest = Text::new(alloc, rest)?;
+    Ok(says(set_member(memory, &name, &member, rest), answer)?)
 }
 
 fn shows(memory: &Memory, name: &str, answer: &str) -> Result<bool, Fail> {
-    let outcome = show(memory, &Text::new(memory.alloc, name)?)?;
-    Ok(says(&outcome, answer))
+    let name = Text::new(memory.alloc, name)?;
+    Ok(says(show(memory, &name), answer)?)
 }
 
 #[test]
@@ -72,7 +75,7 @@ fn adds(memory: &mut Memory, name: &str, target: &str) -> Result<bool, Fail>
     let alloc = memory.alloc;
     let (name, member) = (Text::new(alloc, name)?, Text::new(alloc, "all")?);
     let target = Target::Named(Text::new(alloc, target)?);
-    Ok(says(&add_to(memory, &name, &member, &target)?, "ok\n"))
+    Ok(says(add_to(memory, &name, &member, &target), "ok\n")?)
 }
 
 /// Whether `pick NAME all 0 NEW` is answered `ok`.
@@ -83,8 +86,7 @@ fn picks(memory: &mut Memory, name: &str, new: &str) -> Result<bool, Fail>
     let alloc = memory.alloc;
     let (name, member) = (Text::new(alloc, name)?, Text::new(alloc, "all")?);
     let (first, new) = (Index::from_digits(alloc, b"0")?, Text::new(alloc, new)?);
-    let outcome = pick(memory, &name, &member, &first, &new)?;
-    Ok(says(&outcome, "ok\n"))
+    Ok(says(pick(memory, &name, &member, &first, &new), "ok\n")?)
 }
 
 /// Whether `cut NAME all 0` is answered `ok`.
@@ -95,7 +97,7 @@ fn cuts(memory: &mut Memory, name: &str) -> Result<bool, Fail>
     let alloc = memory.alloc;
     let (name, member) = (Text::new(alloc, name)?, Text::new(alloc, "all")?);
     let first = Index::from_digits(alloc, b"0")?;
-    Ok(says(&cut_from(memory, &name, &member, &first)?, "ok\n"))
+    Ok(says(cut_from(memory, &name, &member, &first), "ok\n")?)
 }
 
 /// Whether `home NAME` is answered so.
@@ -104,7 +106,7 @@ fn goes_home(memory: &mut Memory, name: &str, answer: &str) -> Result<bool, Fail
     ensures { OnOk result (KnowsObjects memory.new) }
 {
     let name = Text::new(memory.alloc, name)?;
-    Ok(says(&home(memory, &name)?, answer))
+    Ok(says(home(memory, &name), answer)?)
 }
 
 fn makes_root(memory: &mut Memory, name: &str) -> Result<bool, Fail>
@@ -112,7 +114,7 @@ fn makes_root(memory: &mut Memory, name: &str) -> Result<bool, Fail>
     ensures { OnOk result (KnowsObjects memory.new) }
 {
     let name = Text::new(memory.alloc, name)?;
-    Ok(says(&set_root(memory, &name)?, "ok\n"))
+    Ok(says(set_root(memory, &name), "ok\n")?)
 }
 
 fn drops(memory: &mut Memory, name: &str) -> Result<bool, Fail>
@@ -120,7 +122,7 @@ fn drops(memory: &mut Memory, name: &str) -> Result<bool, Fail>
     ensures { OnOk result (KnowsObjects memory.new) }
 {
     let name = Text::new(memory.alloc, name)?;
-    Ok(says(&drop_name(memory, &name)?, "ok\n"))
+    Ok(says(drop_name(memory, &name), "ok\n")?)
 }
 
 #[test]
@@ -137,8 +139,7 @@ fn references_lead_to_names(rt: HostRuntime) -> Result<(), Fail> {
     Ok(())
 }
 
-/// Whether the storage is asked to release nothing, and then this is said.
-fn releases_none(outcome: &Outcome, text: &str) -> bool {
+fn is_release_of_none(outcome: &Outcome, text: &str) -> bool {
     match outcome {
         Outcome::Ask(Ask::Release(ids), Phase::Saying(said)) => {
             ids.is_empty() && said.as_slice() == text.as_bytes()
@@ -147,24 +148,32 @@ fn releases_none(outcome: &Outcome, text: &str) -> bool {
     }
 }
 
+/// Whether the storage is asked to release nothing, and then this is said.
+fn releases_none(outcome: Result<Outcome, NoMemory>, text: &str) -> Result<bool, NoMemory> {
+    Ok(is_release_of_none(&outcome?, text))
+}
+
 #[test]
 fn an_object_is_forgotten(rt: HostRuntime) -> Result<(), Fail> {
     let mut memory = begun_with_points(rt.alloc())?;
     assert!(rt; makes_point(&mut memory, "p", "new 1024\n")?);
     assert!(rt; drops(&mut memory, "p")?);
-    assert!(rt; releases_none(&forget(&mut memory)?, "forgot 1\n"));
+    assert!(rt; releases_none(forget(&mut memory), "forgot 1\n")?);
     Ok(())
+}
+
+fn asks_to_tidy(outcome: Result<Outcome, NoMemory>) -> Result<bool, NoMemory> {
+    Ok(matches!(&outcome?, Outcome::Ask(Ask::Tidy, Phase::Saying(_))))
+}
+
+fn asks_to_collect(outcome: Outcome) -> bool {
+    matches!(&outcome, Outcome::Ask(Ask::Collect, Phase::Collecting))
 }
 
 #[test]
 fn a_storage_is_asked(rt: HostRuntime) -> Result<(), Fail> {
-    assert!(rt; matches!(&collect(), Outcome::Ask(Ask::Collect, Phase::Collecting)));
-    assert!(rt;
-        matches!(
-            &tidy(rt.alloc())?,
-            Outcome::Ask(Ask::Tidy, Phase::Saying(_))
-        )
-    );
+    assert!(rt; asks_to_collect(collect()));
+    assert!(rt; asks_to_tidy(tidy(rt.alloc()))?);
     assert!(rt; Refusal::Full.code() == "full");
     Ok(())
 }
@@ -177,8 +186,7 @@ fn desc(alloc: Global, record: &str) -> Result<TypeDesc, DescFault>
     Ok(desc)
 }
 
-/// Whether the storage is asked to keep this record, and then this is said.
-fn keeps_type(outcome: &Outcome, record: &str, text: &str) -> bool {
+fn is_record(outcome: &Outcome, record: &str, text: &str) -> bool {
     match outcome {
         Outcome::Ask(Ask::KeepType(bytes), Phase::Saying(said)) => {
             bytes.as_slice() == record.as_bytes() && said.as_slice() == text.as_bytes()
@@ -187,12 +195,21 @@ fn keeps_type(outcome: &Outcome, record: &str, text: &str) -> bool {
     }
 }
 
+/// Whether the storage is asked to keep this record, and then this is said.
+fn keeps_type(
+    outcome: Result<Outcome, NoMemory>,
+    record: &str,
+    text: &str,
+) -> Result<bool, NoMemory> {
+    Ok(is_record(&outcome?, record, text))
+}
+
 /// Whether the type of the record is declared so.
 fn declares(memory: &mut Memory, record: &str, text: &str) -> Result<bool, Fail>
     requires { KnowsObjects memory.old }
 {
     let desc = desc(memory.alloc, record)?;
-    Ok(keeps_type(&declare_type(memory, &desc)?, record, text))
+    Ok(keeps_type(declare_type(memory, &desc), record, text)?)
 }
 
 #[test]
