@@ -175,15 +175,15 @@ impl Session {
     }
 
     /// Takes what was waited for, and gives what comes next: at first and after `Done` a line is waited for, after `Ask` the reply, and after
-    /// `Print` that it was printed. Of what a storage replies nothing is taken on trust: an entity that has not its type's form gives `Broken`.
-    /// After `NoMemory` or `Broken` the session is given up.
+    /// `Print` that it was printed. A storage may reply with any entity: one that has not its type's form gives `Broken`. After `NoMemory` or
+    /// `Broken` the session is given up.
     pub fn next(&mut self, given: Given) -> Result<Turn, NoMemory>
         requires steady { IsSteady self.old }
         requires fits { Fits given self.old.waiting }
         ensures steady { IfOk result (λ _. IsSteady self.new) }
         ensures fits { IfOk result (λ turn. FitsBehind turn self.new.waiting) }
         ensures broken { IfOk result (IsBrokenWhere given self.old) }
-        // Whatever files it has, once the script has begun a storage is asked to tidy.
+        // Once the script has begun, the line `tidy` asks the storage.
         ensures tidies { (text : List ℕ) → given ≡ Given.Line text → command_of text ≡ Some Tidy → self.old.memory.started ≡ true → IfOk result (λ turn. turn ≡ Turn.Ask AnyAsk.Tidy) }
         // Whatever storage it is that stands there: what may be asked is asked, and what is due is printed.
         ensures gives { (is_next_type : List (List ℕ) → List ℕ → Bool) (storage : Storage) (due : TurnDue) → Admits is_next_type → MayGive given self.old storage due
