@@ -1,4 +1,5 @@
 -- A run on the only disk of the list.
+use Rattle.plain_storage.specs.Held.{IsPlainFault}
 use Rattle.plain_storage.specs.Images.{EachPair}
 use Rattle.store_run.specs.Acknowledged.{acknowledged}
 use Rattle.store_run.specs.Answer.{answer}
@@ -8,6 +9,11 @@ use Rattle.store_run.proofs.OneDisk.{of_changed, of_same}
 use Rattle.store_run.proofs.Promise.{untouched_prefix}
 use Rattle.store_run.proofs.top.run_alone.Goals as goal
 
+pub returns-clause-damaged : goal.returns-clause-damaged
+returns-clause-damaged g c told channel cause is =
+    let damaged = c.run_disk.ensures.damaged told channel cause is in
+    (damaged.0, damaged.1, of_changed c.args.disks.now.items c.index_mut.result.now c.run_disk.new.disk (λ old new. IsPlainFault (g.D.Disk.reads old 0) (g.D.Disk.reads old 1)) c.index_mut.ensures.value damaged.2)
+
 pub returns-clause-fault_is_damaged : goal.returns-clause-fault_is_damaged
 returns-clause-fault_is_damaged g c told words = of_changed c.args.disks.now.items c.index_mut.result.now c.run_disk.new.disk _ c.index_mut.ensures.value (c.run_disk.ensures.fault_is_damaged told)
 
@@ -16,6 +22,9 @@ returns-clause-fault_line g c answers told = of_changed c.args.disks.now.items c
 
 pub returns-clause-fault_stays : goal.returns-clause-fault_stays
 returns-clause-fault_stays g c told = of_changed c.args.disks.now.items c.index_mut.result.now c.run_disk.new.disk _ c.index_mut.ensures.value (c.run_disk.ensures.fault_stays told)
+
+pub returns-clause-complete : goal.returns-clause-complete
+returns-clause-complete g c takes told words start = of_changed c.args.disks.now.items c.index_mut.result.now c.run_disk.new.disk _ c.index_mut.ensures.value (c.run_disk.ensures.complete takes told start)
 
 pub returns-clause-refused : goal.returns-clause-refused
 returns-clause-refused g c takes told words start = of_changed c.args.disks.now.items c.index_mut.result.now c.run_disk.new.disk _ c.index_mut.ensures.value (c.run_disk.ensures.refused takes told start)
