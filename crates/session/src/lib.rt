@@ -29,12 +29,3 @@ pub use refusal::{Refusal, Stop};
 pub use session::{Given, Session, Turn};
 pub use storing::{store, store_all};
 pub use telling::{collect, forget, show, tidy};
-
-#[cfg(test)]
-mod export_tests;
-#[cfg(test)]
-mod fixtures;
-#[cfg(test)]
-mod store_tests;
-#[cfg(test)]
-mod tests;
