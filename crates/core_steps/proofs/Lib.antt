@@ -27,5 +27,4 @@ pub mod Readers
 pub mod Ordered
 pub mod StepCalls
 pub mod Refused
-pub mod StartGraphs
 pub mod Rows

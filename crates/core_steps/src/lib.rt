@@ -15,8 +15,6 @@ mod starting;
 mod state;
 mod storing;
 mod sweeping;
-#[cfg(test)]
-mod tests;
 mod unit;
 
 pub use counting::{begin_cycle, close_cycle, report_begun, report_swept, reserve, return_credit};
