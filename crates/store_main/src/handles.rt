@@ -76,7 +76,8 @@ impl Handles {
         }
     }
 
-    /// Opens the file if it is there, and says whether it is.
+    /// Opens the file if it is there, and says whether it is. It is synced then, before anything is read of it: a
+    /// process before may have been stopped between a write and its sync.
     fn find(&mut self, file: u32) -> io::Result<bool> {
         if self.open.contains_key(&file) {
             return Ok(true);
@@ -88,6 +89,7 @@ impl Handles {
             .open(&self.rt, path.as_str());
         match found {
             Ok(handle) => {
+                handle.sync_all()?;
                 self.keep(file, handle)?;
                 Ok(true)
             }
