@@ -16,6 +16,3 @@ pub use reading::decode;
 pub use spelling::{no_proper_prefix, read_entity, write_entity};
 pub use value::{Object, Value, Values};
 pub use writing::encode;
-
-#[cfg(test)]
-mod tests;

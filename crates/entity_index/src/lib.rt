@@ -4,8 +4,6 @@
 mod index;
 mod row;
 mod tally;
-#[cfg(test)]
-mod tests;
 
 pub use index::EntityIndex;
 pub use oid_table::NoMemory;

@@ -11,8 +11,6 @@ mod payload;
 mod record;
 mod size;
 pub mod start;
-#[cfg(test)]
-mod tests;
 
 pub use log::{AppendFault, GatedLog};
 pub use opening::{LogFault, Opening};

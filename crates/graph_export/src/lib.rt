@@ -76,6 +76,3 @@ pub fn line_of(alloc: Global, id: u64, object: &Object, desc: &TypeDesc) -> Resu
     let text = Json::Object(line).to_string(alloc)?;
     Ok(Bytes::new(text.into_bytes()))
 }
-
-#[cfg(test)]
-mod tests;

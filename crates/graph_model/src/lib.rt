@@ -6,8 +6,6 @@ mod entity;
 mod graph;
 mod lists;
 mod memory;
-#[cfg(test)]
-mod tests;
 
 pub use ask::{Ask, Reply, StorageFault};
 pub use entity::{Entity, Record, Records, StoreOp};

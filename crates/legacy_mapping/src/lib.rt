@@ -14,6 +14,3 @@ pub use fault::PlanFault;
 pub use planning::plan;
 pub use sources::Plan;
 pub use targets::target;
-
-#[cfg(test)]
-mod tests;

@@ -10,8 +10,6 @@ mod names;
 mod references;
 mod registry;
 mod table;
-#[cfg(test)]
-mod tests;
 mod walking;
 
 pub use fault::BindFault;

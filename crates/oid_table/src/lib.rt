@@ -5,8 +5,6 @@ mod memory;
 mod probing;
 mod slot;
 mod table;
-#[cfg(test)]
-mod tests;
 
 pub use memory::NoMemory;
 pub use table::OidTable;

@@ -11,6 +11,3 @@ pub use fault::{AddFault, NameFault};
 pub use name::{Pair, RefName};
 pub use reading::read_name;
 pub use table::RefactorTable;
-
-#[cfg(test)]
-mod tests;

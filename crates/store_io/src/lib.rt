@@ -13,8 +13,6 @@ mod places;
 mod restart;
 pub mod sink;
 pub mod source;
-#[cfg(test)]
-mod tests;
 
 pub use disk::{Disk, DiskFailed};
 pub use mem_disk::MemDisk;

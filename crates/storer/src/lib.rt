@@ -5,8 +5,6 @@ mod edges;
 mod fault;
 mod gathering;
 mod recording;
-#[cfg(test)]
-mod tests;
 
 pub use fault::GatherFault;
 pub use gathering::{gather_eager, gather_lazy};

@@ -9,6 +9,3 @@ mod inventory;
 pub use file::TransactionsFile;
 pub use files::FileList;
 pub use inventory::{Inventory, InventoryFault};
-
-#[cfg(test)]
-mod tests;

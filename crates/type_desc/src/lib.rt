@@ -15,6 +15,3 @@ pub use lists::{Bytes8, Members};
 pub use reading::read_desc;
 pub use text::Text;
 pub use writing::{one_spelling, write_desc};
-
-#[cfg(test)]
-mod tests;

@@ -10,6 +10,3 @@ pub use declaration::Declared;
 pub use dictionary::Dictionary;
 pub use fault::{DeclareFault, RecordFault};
 pub use repeats::have_no_repeat;
-
-#[cfg(test)]
-mod tests;

@@ -1,0 +1,130 @@
+use refactor_table::{AddFault, NameFault, RefName, RefactorTable, read_name};
+use std::alloc::{AllocError, Global};
+use std::test::Fail;
+use type_desc::Text;
+
+/// Whether the name is of this type.
+fn is_type(name: &RefName, type_name: &str) -> bool {
+    match name {
+        RefName::OfType(name) => name.as_str() == type_name,
+        RefName::OfMember(_, _) => false,
+    }
+}
+
+/// Whether the name is of this member.
+fn is_member(name: &RefName, type_name: &str, member_name: &str) -> bool {
+    match name {
+        RefName::OfType(_) => false,
+        RefName::OfMember(name, member) => {
+            name.as_str() == type_name && member.as_str() == member_name
+        }
+    }
+}
+
+/// Whether this member was found.
+fn is_found(found: Option<(&Text, &Text)>, type_name: &str, member_name: &str) -> bool {
+    match found {
+        Some((name, member)) => name.as_str() == type_name && member.as_str() == member_name,
+        None => false,
+    }
+}
+
+fn type_name(alloc: Global, name: &str) -> Result<RefName, AllocError> {
+    Ok(RefName::OfType(Text::new(alloc, name)?))
+}
+
+/// Adds a pair of types.
+fn add_types(
+    alloc: Global,
+    table: &mut RefactorTable,
+    old: &str,
+    new: &str,
+) -> Result<(), AddFault> {
+    let old = RefName::OfType(Text::new(alloc, old)?);
+    let new = RefName::OfType(Text::new(alloc, new)?);
+    table.add(old, new)
+}
+
+/// Adds a pair of members.
+fn add_members(
+    alloc: Global,
+    table: &mut RefactorTable,
+    old: (&str, &str),
+    new: (&str, &str),
+) -> Result<(), AddFault> {
+    let old = RefName::OfMember(Text::new(alloc, old.0)?, Text::new(alloc, old.1)?);
+    let new = RefName::OfMember(Text::new(alloc, new.0)?, Text::new(alloc, new.1)?);
+    table.add(old, new)
+}
+
+/// `A` to `B`, its member `x` to `y` of `B`, and `C` to `D`.
+fn three_pairs(alloc: Global) -> Result<RefactorTable, AddFault> {
+    let mut table = RefactorTable::new(alloc);
+    add_types(alloc, &mut table, "A", "B")?;
+    add_members(alloc, &mut table, ("A", "x"), ("B", "y"))?;
+    add_types(alloc, &mut table, "C", "D")?;
+    Ok(table)
+}
+
+#[test]
+fn reads_names(rt: HostRuntime) -> Result<(), Fail> {
+    let name = read_name(rt.alloc(), b"Point2_B")?;
+    assert!(rt; is_type(&name, "Point2_B"));
+    let name = read_name(rt.alloc(), b"A.left_1")?;
+    assert!(rt; is_member(&name, "A", "left_1"));
+    Ok(())
+}
+
+#[test]
+fn says_where_a_word_is_no_name(rt: HostRuntime) {
+    let long = b"A234567890123456789012345678901234567890123456789012345678901234x";
+    let cases: [(&[u8], u64); 9] = [
+        (b"", 0),
+        (b"point", 0),
+        (b".x", 0),
+        (b"A b", 1),
+        (b"A\xff", 1),
+        (b"A.", 2),
+        (b"A.X", 2),
+        (b"A.x.y", 3),
+        (long, 64),
+    ];
+    for (word, at) in cases {
+        let fault = read_name(rt.alloc(), word).err();
+        assert_eq!(rt; fault, Some(NameFault::Bad { at }));
+    }
+}
+
+#[test]
+fn names_the_first_row_in_the_way(rt: HostRuntime) -> Result<(), Fail> {
+    let alloc = rt.alloc();
+    let mut table = three_pairs(alloc)?;
+    for (old, new, row) in [("A", "E", 0), ("E", "D", 2), ("C", "B", 0)] {
+        let added = add_types(alloc, &mut table, old, new);
+        assert_eq!(rt; added, Err(AddFault::Duplicate { row }));
+    }
+    Ok(())
+}
+
+#[test]
+fn tells_members_from_types(rt: HostRuntime) -> Result<(), Fail> {
+    let alloc = rt.alloc();
+    let mut table = three_pairs(alloc)?;
+    let added = add_members(alloc, &mut table, ("E", "x"), ("B", "y"));
+    assert_eq!(rt; added, Err(AddFault::Duplicate { row: 1 }));
+    let (old, new) = (type_name(alloc, "B")?, type_name(alloc, "D")?);
+    assert_eq!(rt; table.clash(&old, &new), Some(2));
+    Ok(())
+}
+
+#[test]
+fn finds_pairs_by_either_name(rt: HostRuntime) -> Result<(), Fail> {
+    let alloc = rt.alloc();
+    let table = three_pairs(alloc)?;
+    let (a, b) = (Text::new(alloc, "A")?, Text::new(alloc, "B")?);
+    let (x, y) = (Text::new(alloc, "x")?, Text::new(alloc, "y")?);
+    assert!(rt; table.new_type(&a).is_some_and(|name| name.is_same(&b)));
+    assert!(rt; is_found(table.new_member(&a, &x), "B", "y"));
+    assert!(rt; is_found(table.old_member(&b, &y), "A", "x"));
+    Ok(())
+}
