@@ -5,7 +5,7 @@ ghost use Rattle.graph_model.specs.Served.{Storage};
 ghost use Rattle.graph_model.specs.declared.ask.Ask.{Ask as AnyAsk};
 ghost use Rattle.session_model.specs.Answer.{State, command_turn, needs_start, turn_of};
 ghost use Rattle.script_text.specs.Meaning.{meant};
-ghost use Rattle.session_model.specs.Commands.{Tidy};
+ghost use Rattle.session_model.specs.Commands.{Collect, Tidy};
 ghost use Rattle.session.specs.Broken.{broken_by};
 ghost use Rattle.session.specs.Stands.{Admits, StandsAt};
 ghost use Rattle.session.specs.Steady.{IsAskOf, IsSteadyOutcome, KnowsObjects};
@@ -35,6 +35,7 @@ pub fn carry_out(memory: &mut Memory, command: Command) -> Result<Outcome, NoMem
     ensures steady { IfOk result (IsSteadyOutcome memory.new) }
     ensures whole { IfOk result (λ outcome. broken_by outcome ≡ None) }
     ensures tidies { meant command ≡ Tidy → IfOk result (IsAskOf AnyAsk.Tidy) }
+    ensures collects { meant command ≡ Collect → IfOk result (IsAskOf AnyAsk.Collect) }
     ensures meets { (is_next_type : List (List ℕ) → List ℕ → Bool) (storage : Storage) (state : State) → Admits is_next_type → StandsAt memory.old storage state
         → (needs_start (meant command) ≡ true → state.started ≡ true) → IfOk result (λ outcome. Meets is_next_type outcome memory.new storage (command_turn most_bytes state (meant command))) }
     ensures few { (storage : Storage) (state : State) → StandsAt memory.old storage state → IfOk result (λ outcome. outcome_steps outcome storage.graph < 4 * length storage.graph + 4) }
@@ -99,6 +100,7 @@ pub fn take_command(memory: &mut Memory, command: Command) -> Result<Outcome, No
     ensures steady { IfOk result (IsSteadyOutcome memory.new) }
     ensures whole { IfOk result (λ outcome. broken_by outcome ≡ None) }
     ensures tidies { meant command ≡ Tidy → memory.old.started ≡ true → IfOk result (IsAskOf AnyAsk.Tidy) }
+    ensures collects { meant command ≡ Collect → memory.old.started ≡ true → IfOk result (IsAskOf AnyAsk.Collect) }
     ensures meets { (is_next_type : List (List ℕ) → List ℕ → Bool) (storage : Storage) (state : State) → Admits is_next_type → StandsAt memory.old storage state
         → IfOk result (λ outcome. Meets is_next_type outcome memory.new storage (turn_of most_bytes state (Some (meant command)))) }
 {

@@ -6,7 +6,7 @@ ghost use Rattle.graph_model.specs.Served.{SameIds, Storage};
 ghost use Rattle.graph_model.specs.declared.ask.Ask.{Ask as AnyAsk};
 ghost use Rattle.type_dictionary.specs.Records.{records_from};
 ghost use Rattle.session_model.specs.Answer.{Turn as TurnDue, opened};
-ghost use Rattle.session_model.specs.Commands.{Tidy, command_of};
+ghost use Rattle.session_model.specs.Commands.{Collect, Tidy, command_of};
 ghost use Rattle.session_model.specs.Sound.{AreTypes, IsRightGraph};
 ghost use Rattle.session.specs.Broken.{IsBrokenWhere, broken_at, broken_by};
 ghost use Rattle.session.specs.Dealing.{AfterPrint, AfterReply, BeginsLine, ComesNearer, Gives, MayGive};
@@ -126,6 +126,7 @@ impl Session {
         ensures fits { IfOk result (λ turn. FitsBehind turn self.new.waiting) }
         ensures whole { IfOk result (λ turn. broken_at turn ≡ None) }
         ensures tidies { command_of text ≡ Some Tidy → self.old.memory.started ≡ true → IfOk result (λ turn. turn ≡ Turn.Ask AnyAsk.Tidy) }
+        ensures collects { command_of text ≡ Some Collect → self.old.memory.started ≡ true → IfOk result (λ turn. turn ≡ Turn.Ask AnyAsk.Collect) }
         ensures gives { (is_next_type : List (List ℕ) → List ℕ → Bool) (storage : Storage) (due : TurnDue) → Admits is_next_type → BeginsLine text self.old.memory storage due
             → IfOk result (λ turn. Gives is_next_type turn self.new storage due) }
     {
@@ -183,8 +184,9 @@ impl Session {
         ensures steady { IfOk result (λ _. IsSteady self.new) }
         ensures fits { IfOk result (λ turn. FitsBehind turn self.new.waiting) }
         ensures broken { IfOk result (IsBrokenWhere given self.old) }
-        // Once the script has begun, the line `tidy` asks the storage.
+        // Once the script has begun, the lines `tidy` and `collect` ask the storage.
         ensures tidies { (text : List ℕ) → given ≡ Given.Line text → command_of text ≡ Some Tidy → self.old.memory.started ≡ true → IfOk result (λ turn. turn ≡ Turn.Ask AnyAsk.Tidy) }
+        ensures collects { (text : List ℕ) → given ≡ Given.Line text → command_of text ≡ Some Collect → self.old.memory.started ≡ true → IfOk result (λ turn. turn ≡ Turn.Ask AnyAsk.Collect) }
         // Whatever storage it is that stands there: what may be asked is asked, and what is due is printed.
         ensures gives { (is_next_type : List (List ℕ) → List ℕ → Bool) (storage : Storage) (due : TurnDue) → Admits is_next_type → MayGive given self.old storage due
             → IfOk result (λ turn. Gives is_next_type turn self.new storage due) }

@@ -5,7 +5,7 @@ ghost use Rattle.graph_model.specs.Graph.{Graph};
 ghost use Rattle.graph_model.specs.Served.{Storage};
 ghost use Rattle.graph_model.specs.declared.ask.Ask.{Ask as AnyAsk};
 ghost use Rattle.session_model.specs.Answer.{Turn};
-ghost use Rattle.session_model.specs.Commands.{Tidy, command_of};
+ghost use Rattle.session_model.specs.Commands.{Collect, Tidy, command_of};
 ghost use Rattle.session.specs.Broken.{IsBrokenAt, asked_in, broken_by, entity_in, taken_for};
 ghost use Rattle.session.specs.Dealing.{BeginsLine};
 ghost use Rattle.session.specs.Due.{Meets, Replied, stored_text};
@@ -37,6 +37,7 @@ pub fn take_line(memory: &mut Memory, text: &Bytes) -> Result<Outcome, NoMemory>
     ensures steady { IfOk result (IsSteadyOutcome memory.new) }
     ensures whole { IfOk result (λ outcome. broken_by outcome ≡ None) }
     ensures tidies { command_of text.now ≡ Some Tidy → memory.old.started ≡ true → IfOk result (IsAskOf AnyAsk.Tidy) }
+    ensures collects { command_of text.now ≡ Some Collect → memory.old.started ≡ true → IfOk result (IsAskOf AnyAsk.Collect) }
     ensures meets { (is_next_type : List (List ℕ) → List ℕ → Bool) (storage : Storage) (due : Turn) → Admits is_next_type → BeginsLine text.now memory.old storage due
         → IfOk result (λ outcome. Meets is_next_type outcome memory.new storage due) }
 {

@@ -16,6 +16,7 @@ returns-then-not-must_begin c =
       steady = c.carry_out.ensures.steady;
       whole = c.carry_out.ensures.whole;
       tidies = λ is begun. c.carry_out.ensures.tidies is;
+      collects = λ is begun. c.carry_out.ensures.collects is;
       meets = λ is_next_type storage state admits at.
           subst (λ (t : Turn). IfOk c.carry_out.result (λ o. Meets is_next_type o c.carry_out.new.memory storage t)) (sym (comes_at_once c.args.memory.now storage state (meant c.args.command) at now))
           (c.carry_out.ensures.meets is_next_type storage state admits at (has_begun c.args.memory.now storage state (meant c.args.command) at now));
@@ -30,6 +31,7 @@ returns-then-memory c =
       steady = c.load_root.ensures.steady;
       whole = c.load_root.ensures.whole;
       tidies = λ is begun. absurd (let unbegun = second_fails (needs_start (meant c.args.command)) c.args.memory.now.started later in cc);
+      collects = λ is begun. absurd (let unbegun = second_fails (needs_start (meant c.args.command)) c.args.memory.now.started later in cc);
       meets = λ is_next_type storage state admits at.
           subst (λ (t : Turn). IfOk c.load_root.result (λ o. Meets is_next_type o c.load_root.new.memory storage t)) (sym (comes_later c.args.memory.now storage state (meant c.args.command) at later))
           (c.load_root.ensures.meets is_next_type storage state at (has_not_begun c.args.memory.now storage state (meant c.args.command) at later)
@@ -45,6 +47,7 @@ returns c =
       steady = c.carry_out-2.ensures.steady;
       whole = c.carry_out-2.ensures.whole;
       tidies = λ is begun. absurd (let unbegun = second_fails (needs_start (meant c.args.command)) c.args.memory.now.started later in cc);
+      collects = λ is begun. absurd (let unbegun = second_fails (needs_start (meant c.args.command)) c.args.memory.now.started later in cc);
       meets = λ is_next_type storage state admits at.
           let begun = c.in_ok-make_root.ensures.stands storage state at (has_not_begun c.args.memory.now storage state (meant c.args.command) at later)
           (root_is c.args.memory.now storage state (meant c.args.command) false at later c.if-memory.false) in

@@ -1,6 +1,6 @@
 use Rattle.std.proofs.Common.{◌≡◌, IfOk, Some, ap, ◌∙◌, subst, sym}
 use Rattle.session_model.specs.Answer.{Turn}
-use Rattle.session_model.specs.Commands.{Tidy, command_of}
+use Rattle.session_model.specs.Commands.{Collect, Tidy, command_of}
 use Rattle.script_text.specs.Meaning.{meant}
 use Rattle.session.specs.Due.{Meets}
 use Rattle.session.specs.Limits.{most_bytes}
@@ -15,6 +15,11 @@ returns-in-Ok-clause-tidies c = λ is begun.
     let found : command_of c.args.text.now ≡ Some (meant c.in-Ok.command) = ap command_of (sym c.as_slice.ensures) ∙ c.in-Ok.ensures.found in
     c.take_command.ensures.tidies (cc) begun
 
+pub returns-in-Ok-clause-collects : goal.returns-in-Ok-clause-collects
+returns-in-Ok-clause-collects c = λ is begun.
+    let found : command_of c.args.text.now ≡ Some (meant c.in-Ok.command) = ap command_of (sym c.as_slice.ensures) ∙ c.in-Ok.ensures.found in
+    c.take_command.ensures.collects (cc) begun
+
 pub returns-in-Ok-clause-meets : goal.returns-in-Ok-clause-meets
 returns-in-Ok-clause-meets c = λ is_next_type storage due admits begins.
     let found : command_of c.args.text.now ≡ Some (meant c.in-Ok.command) = ap command_of (sym c.as_slice.ensures) ∙ c.in-Ok.ensures.found in
@@ -26,6 +31,11 @@ pub returns-in_ok-refusal_line-in-Err-BadLine-clause-tidies : goal.returns-in_ok
 returns-in_ok-refusal_line-in-Err-BadLine-clause-tidies c =
     let fault = rw (c.in-Err-BadLine.field-0-is, c.as_slice.ensures) at c.in-Err-BadLine.ensures.fault in
     λ is begun. absurd (fault.0 (Tidy, is))
+
+pub returns-in_ok-refusal_line-in-Err-BadLine-clause-collects : goal.returns-in_ok-refusal_line-in-Err-BadLine-clause-collects
+returns-in_ok-refusal_line-in-Err-BadLine-clause-collects c =
+    let fault = rw (c.in-Err-BadLine.field-0-is, c.as_slice.ensures) at c.in-Err-BadLine.ensures.fault in
+    λ is begun. absurd (fault.0 (Collect, is))
 
 pub returns-in_ok-refusal_line-in-Err-BadLine-clause-meets : goal.returns-in_ok-refusal_line-in-Err-BadLine-clause-meets
 returns-in_ok-refusal_line-in-Err-BadLine-clause-meets c =
