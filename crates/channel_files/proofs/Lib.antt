@@ -8,4 +8,3 @@ pub mod Allowed
 pub mod Refusals
 pub mod OtherFiles
 pub mod AtOk
-pub mod OneEntity

@@ -17,8 +17,3 @@ pub use channel::ChannelFiles;
 pub use fault::FilesFault;
 pub use place::Place;
 pub use sizes::Sizes;
-
-#[cfg(test)]
-mod silent_disk;
-#[cfg(test)]
-mod tests;

@@ -6,8 +6,6 @@ mod loading;
 mod mapping;
 mod references;
 mod step;
-#[cfg(test)]
-mod tests;
 
 pub use laws::conversions_are_by_the_table;
 pub use loading::Loading;

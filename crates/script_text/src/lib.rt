@@ -14,6 +14,3 @@ pub use command::{Command, Index, Target};
 pub use fault::LineFault;
 pub use given::{GivenInteger, bytes_in, integer_in, target_in};
 pub use line::read_line;
-
-#[cfg(test)]
-mod tests;

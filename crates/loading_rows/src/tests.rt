@@ -3,9 +3,9 @@
 ghost use Rattle.std.specs.Prelude.{IfOk, IsSome, OnOk};
 ghost use Rattle.lazy_refs.specs.Mappings.{AreMappings, AreTypedIn};
 
-use crate::{LoadStep, Loading};
 use entity_form::{Object, Value};
 use graph_model::{Bytes, Entity, Ids, NoMemory};
+use lazy_refs::{LoadStep, Loading};
 use object_registry::Registry;
 use refactor_table::{AddFault, RefName, RefactorTable};
 use std::alloc::Global;

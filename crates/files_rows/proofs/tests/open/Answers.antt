@@ -1,6 +1,6 @@
 use Rattle.std.proofs.Common.{ℕ, List, sym, subst}
 use Rattle.gated_log.specs.Reading.{IsReading}
-use Rattle.channel_files.proofs.tests.open.Goals as goal
+use Rattle.files_rows.proofs.tests.open.Goals as goal
 
 -- beginning to read changed no byte
 pub next-requires-clause-reading : goal.next-requires-clause-reading

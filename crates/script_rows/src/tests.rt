@@ -1,5 +1,9 @@
-use super::*;
+//! Lines of each form, lines that are no command, and values.
+
 use refactor_table::RefName;
+use script_text::{
+    Command, GivenInteger, Index, LineFault, Target, bytes_in, integer_in, read_line, target_in,
+};
 use std::alloc::{AllocError, Global};
 use std::test::Fail;
 use type_desc::{Text, TypeDesc};

@@ -1,10 +1,12 @@
-ghost use Rattle.std.specs.Prelude.{◌≤◌};
-ghost use Rattle.store_io.specs.MemDisk.{disk_reads};
-ghost use Rattle.plain_storage.specs.Logs.{IsOpen};
-ghost use Rattle.plain_storage.specs.Types.{types_header};
+//! Disks that are opened, and the types that are kept on them.
 
-use crate::{OpenFault, keep_type, open};
-use gated_log::GatedLog;
+ghost use Rattle.std.specs.Prelude.{◌≡◌, ◌≤◌, true, length};
+ghost use Rattle.store_io.specs.MemDisk.{disk_reads};
+ghost use Rattle.plain_storage.specs.Keeping.{AreOpen};
+
+use crate::asking::{entity_of, next_number, type_kept};
+use graph_model::{Ask, Bytes, Entity};
+use plain_storage::{OpenFault, PlainStorage, open};
 use std::alloc::{AllocError, Global};
 use std::test::Fail;
 use store_io::{Disk, MemDisk, Pick};
@@ -12,14 +14,27 @@ use store_io::{Disk, MemDisk, Pick};
 /// A record of one type, of the id 16.
 const POINT: &[u8] = b"16 Point{int x,ref next}";
 
-/// Keeps two types in the log, and says how many were kept.
-fn keep_both(log: &mut GatedLog, disk: &mut MemDisk) -> u64
-    requires { IsOpen 1 types_header log.old (disk_reads disk.old 1) }
+/// Whether a type is kept.
+fn keeps(alloc: Global, storage: &mut PlainStorage, disk: &mut MemDisk, text: &[u8]) -> bool
+    requires some { 1 ≤ length text.now }
+    requires size { length text.now ≤ 1048576 }
+    requires logs { AreOpen storage.old (disk_reads disk.old) }
+    ensures logs { result ≡ true → AreOpen storage.new (disk_reads disk.new) }
+{
+    match Vec::from_slice(alloc, text) {
+        Ok(text) => storage.serve(disk, Ask::KeepType(Bytes::new(text))).is_ok(),
+        Err(_) => false,
+    }
+}
+
+/// Keeps two types, and says how many were kept.
+fn keep_both(alloc: Global, storage: &mut PlainStorage, disk: &mut MemDisk) -> u64
+    requires { AreOpen storage.old (disk_reads disk.old) }
     ensures { result ≤ 2 }
 {
-    if keep_type(log, disk, b"16 Point{int x}").is_err() {
+    if !keeps(alloc, storage, disk, b"16 Point{int x}") {
         0
-    } else if keep_type(log, disk, b"17 Line{ref from,ref to}").is_err() {
+    } else if !keeps(alloc, storage, disk, b"17 Line{ref from,ref to}") {
         1
     } else {
         2
@@ -31,9 +46,34 @@ fn keep_two(alloc: Global, disk: &mut MemDisk) -> u64
     ensures { result ≤ 2 }
 {
     match open(alloc, disk) {
-        Ok((mut storage, _types)) => keep_both(&mut storage.types_log, disk),
+        Ok((mut storage, _types)) => keep_both(alloc, &mut storage, disk),
         Err(_) => 0,
     }
+}
+
+/// Opens the disk, keeps a type, and says how many types there were before.
+fn keep_one(alloc: Global, disk: &mut MemDisk) -> Result<u64, Fail> {
+    let (mut storage, types) = open(alloc, disk)?;
+    type_kept(alloc, &mut storage, disk, b"16 Point{int x}")?;
+    Ok(types.count())
+}
+
+/// Opens the disk, and says its next id, how many types it has, and whether there is a root.
+fn opened(alloc: Global, disk: &mut MemDisk) -> Result<(u64, u64, bool), Fail> {
+    let (storage, types) = open(alloc, disk)?;
+    Ok((storage.next_id(), types.count(), storage.is_rooted()))
+}
+
+/// Opens the disk, and says the number that the next store has.
+fn number_due(alloc: Global, disk: &mut MemDisk) -> Result<u64, Fail> {
+    let (mut storage, _types) = open(alloc, disk)?;
+    next_number(alloc, &mut storage, disk)
+}
+
+/// Opens the disk, and gives the entity of an id.
+fn entity_in(alloc: Global, disk: &mut MemDisk, id: u64) -> Result<Entity, Fail> {
+    let (mut storage, _types) = open(alloc, disk)?;
+    entity_of(alloc, &mut storage, disk, id)
 }
 
 /// The log of types with one record.
@@ -68,9 +108,7 @@ fn disk_of(alloc: Global, stores: &[u8], types: &[u8]) -> Result<MemDisk, Fail> 
 fn one_type(rt: HostRuntime) -> Result<(), Fail> {
     let alloc = rt.alloc();
     let mut disk = MemDisk::new(alloc, Vec::new(alloc), None);
-    let (mut storage, types) = open(alloc, &mut disk)?;
-    assert_eq!(rt; types.count(), 0);
-    keep_type(&mut storage.types_log, &mut disk, b"16 Point{int x}")?;
+    assert_eq!(rt; keep_one(alloc, &mut disk)?, 0);
     assert_eq!(rt; disk.len(1)?, 29);
     let mut bytes = [0u8; 29];
     disk.read(1, 0, &mut bytes)?;
@@ -78,8 +116,7 @@ fn one_type(rt: HostRuntime) -> Result<(), Fail> {
         bytes.as_slice(),
         b"ESD1\x01\x00\x01\x00\x01\x0f\x00\x00\x0016 Point{int x}\x00".as_slice()
     );
-    let (_storage, types) = open(alloc, &mut disk)?;
-    assert_eq!(rt; types.count(), 1);
+    assert_eq!(rt; opened(alloc, &mut disk)?, (1024, 1, false));
     Ok(())
 }
 
@@ -124,17 +161,13 @@ fn logs_of_types(rt: HostRuntime) -> Result<(), Fail> {
 fn an_empty_disk(rt: HostRuntime) -> Result<(), Fail> {
     let alloc = rt.alloc();
     let mut disk = MemDisk::new(alloc, Vec::new(alloc), None);
-    let (storage, types) = open(alloc, &mut disk)?;
-    assert_eq!(rt;
-        (storage.next_id, storage.stores_log.count(), types.count()),
-        (1024, 0, 0)
-    );
-    assert!(rt; storage.graph.get(1).is_none());
+    assert_eq!(rt; opened(alloc, &mut disk)?, (1024, 0, false));
     let mut bytes = [0u8; 9];
     disk.read(0, 0, &mut bytes)?;
     assert_eq!(rt; bytes.as_slice(), b"ESP1\x02\x00\x01\x00\x00".as_slice());
     disk.read(1, 0, &mut bytes)?;
     assert_eq!(rt; bytes.as_slice(), b"ESD1\x01\x00\x01\x00\x00".as_slice());
+    assert_eq!(rt; number_due(alloc, &mut disk)?, 1);
     Ok(())
 }
 
@@ -148,21 +181,14 @@ fn one_store(rt: HostRuntime) -> Result<(), Fail> {
         \x07\x00\x00\x00\x00\x00\x00\x00\x00";
     let types = b"ESD1\x01\x00\x01\x00\x01\x0f\x00\x00\x0016 Point{int x}\x00";
     let mut disk = disk_of(alloc, stores, types)?;
-    let (storage, types) = open(alloc, &mut disk)?;
+    assert_eq!(rt; opened(alloc, &mut disk)?, (1025, 1, false));
+    let point = entity_in(alloc, &mut disk, 1024)?;
+    assert_eq!(rt; (point.type_id, point.refs.len()), (16, 0));
     assert_eq!(rt;
-        (storage.next_id, storage.stores_log.count(), types.count()),
-        (1025, 1, 1)
+        point.plain.as_slice(),
+        b"\x07\x00\x00\x00\x00\x00\x00\x00".as_slice()
     );
-    match storage.graph.get(1024) {
-        Some(point) => {
-            assert_eq!(rt; (point.type_id, point.refs.len()), (16, 0));
-            assert_eq!(rt;
-                point.plain.as_slice(),
-                b"\x07\x00\x00\x00\x00\x00\x00\x00".as_slice()
-            );
-        }
-        None => assert!(rt; false),
-    }
+    assert_eq!(rt; number_due(alloc, &mut disk)?, 2);
     Ok(())
 }
 
@@ -174,7 +200,7 @@ fn next_id_of(alloc: Global, numbers: &[u64]) -> Result<Result<u64, OpenFault>, 
         &types_with(alloc, POINT)?,
     )?;
     match open(alloc, &mut disk) {
-        Ok((storage, _types)) => Ok(Ok(storage.next_id)),
+        Ok((storage, _types)) => Ok(Ok(storage.next_id())),
         Err(fault) => Ok(Err(fault)),
     }
 }
@@ -246,8 +272,7 @@ fn stops(rt: HostRuntime) -> Result<(), Fail> {
             let kept = keep_two(alloc, &mut disk);
             assert_eq!(rt; kept == 2, stop == 18);
             let mut again = disk.restart(pick, Vec::new(alloc), None)?;
-            let (_storage, types) = open(alloc, &mut again)?;
-            let count = types.count();
+            let (_next_id, count, _rooted) = opened(alloc, &mut again)?;
             assert!(rt; count == kept || count == kept + 1, "{stop} {pick:?}");
         }
     }

@@ -1,9 +1,11 @@
+//! A chunk that is stored, dropped or read, and a record that is kept.
+
 ghost use Rattle.std.specs.Prelude.{◌≡◌, ◌≤◌, [], IsTrue, length, IfOk};
 ghost use Rattle.transactions_file.specs.Inventory.{start};
 ghost use Rattle.channel_files.specs.Channel.{IsOfDisk};
 
-use super::*;
 use crate::silent_disk::SilentDisk;
+use channel_files::{ChannelFiles, Place, Sizes};
 use entity_form::Header;
 use gated_log::{GatedLog, LogFault, begin};
 use std::alloc::{AllocError, Global};

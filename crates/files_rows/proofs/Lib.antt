@@ -1,0 +1,2 @@
+-- Lemmas on what tests store.
+pub mod OneEntity

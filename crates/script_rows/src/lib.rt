@@ -1,0 +1,5 @@
+//! Lines and values of a script with the commands, and the faults, that they must give.
+#![tactic(auto)]
+
+#[cfg(test)]
+mod tests;

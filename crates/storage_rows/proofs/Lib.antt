@@ -1,0 +1,3 @@
+-- Lemmas on what a storage holds that tests ask.
+pub mod Alone
+pub mod EmptyDisk
