@@ -59,29 +59,52 @@ fn answer(session: &mut Session, storage: &mut MemStorage, line: &str) -> Result
     Err(Halt::TooManySteps)
 }
 
+/// Whether the line is answered so.
+fn is_answered(
+    session: &mut Session,
+    storage: &mut MemStorage,
+    line: &str,
+    text: &str,
+) -> Result<bool, Halt>
+    requires { IsReady session.old }
+    ensures { OnOk result (IsReady session.new) }
+{
+    let printed = answer(session, storage, line)?;
+    Ok(printed.as_slice() == text.as_bytes())
+}
+
 /// How many rows from the front are answered so by a session over what the storage keeps.
 pub fn answered(storage: &mut MemStorage, rows: &[Row]) -> Result<usize, Halt> {
     let mut session = open(storage)?;
-    let mut count = 0;
-    for (line, text) in rows {
-        if answer(&mut session, storage, line)?.as_slice() != text.as_bytes() {
-            break;
+    for (index, (line, text)) in rows.iter().enumerate() {
+        if !is_answered(&mut session, storage, line, text)? {
+            return Ok(index);
         }
-        count += 1;
     }
-    Ok(count)
+    Ok(rows.len())
 }
 
-/// For how many rows from the front the storage is asked so.
+/// Whether so is asked for the line.
+fn is_asked(
+    session: &mut Session,
+    storage: &mut MemStorage,
+    line: &str,
+    asks: &str,
+) -> Result<bool, Halt>
+    requires { IsReady session.old }
+    ensures { OnOk result (IsReady session.new) }
+{
+    let _ = answer(session, storage, line)?;
+    Ok(storage.asked.as_slice() == asks.as_bytes())
+}
+
+/// For how many rows from the front the storage is asked so, by a session over what it keeps.
 pub fn asked(storage: &mut MemStorage, rows: &[Row]) -> Result<usize, Halt> {
     let mut session = open(storage)?;
-    let mut count = 0;
-    for (line, asks) in rows {
-        let _ = answer(&mut session, storage, line)?;
-        if storage.asked.as_slice() != asks.as_bytes() {
-            break;
+    for (index, (line, asks)) in rows.iter().enumerate() {
+        if !is_asked(&mut session, storage, line, asks)? {
+            return Ok(index);
         }
-        count += 1;
     }
-    Ok(count)
+    Ok(rows.len())
 }
