@@ -1,0 +1,2 @@
+-- What examples of a session say of it.
+pub mod Ready
