@@ -9,3 +9,7 @@ pub mod Refusals
 pub mod OtherFiles
 pub mod AtOk
 pub mod OneEntity
+pub mod NumbersInFront
+pub mod EntitiesStand
+pub mod TableEntries
+pub mod FoundEntities
