@@ -3,7 +3,7 @@ use Rattle.std.proofs.Common.{◌≡◌, ℕ, ◌+◌, ◌-◌, ◌≤◌, true,
 use Rattle.std.specs.List.{AllByRecursion}
 use Rattle.std.proofs.lemmas.Bool.{cases_Bool}
 use Rattle.std.proofs.lemmas.List.{drop-take, drop-drop, take-take}
-use Rattle.std.proofs.lemmas.List.Elements.{recursion_from_All, All-append, All-cons, All-nil, All-take, All-same}
+use Rattle.std.proofs.lemmas.List.Elements.{recursion_from_All}
 use Rattle.field_bytes.specs.Fields.{number_at}
 use Rattle.gated_log.specs.Log.{payloads_of}
 use Rattle.transactions_file.specs.Files.{is_live, length_in}
@@ -11,12 +11,10 @@ use Rattle.transactions_file.specs.Transactions.{Transactions}
 use Rattle.transactions_file.proofs.Lengths.{dead_length}
 use Rattle.data_file.specs.Chunks.{IsEntity, IsChunk}
 use Rattle.data_file.specs.Headers.{IsHeaderAt}
-use Rattle.channel_files.specs.declared.place.Place.{Place}
 use Rattle.channel_files.specs.Chunks.{Range, Chunk, chunk_at, content_of, ranges_of}
 use Rattle.channel_files.specs.Table.{Occurrence, occurrences_of, table_of}
 use Rattle.channel_files.specs.Channel.{IsOfDisk}
-use Rattle.channel_files.specs.Heads.{chunk_of}
-use Rattle.channel_files.specs.Whole.{AreWhole, HasWholeChunks, header_of}
+use Rattle.channel_files.specs.Whole.{HasWholeChunks, header_of}
 use Rattle.channel_files.proofs.Within.{AllWithin, all_fit}
 use Rattle.channel_files.proofs.Allowed.{nothing}
 use Rattle.channel_files.proofs.NumbersInFront.{number_in_front, number_there}
@@ -113,13 +111,3 @@ header_there reads o is =
 
 pub length_told : (bytes : List ℕ) → IsEntity bytes → (header_of bytes).length ≡ length bytes
 length_told bytes is = ap (λ (o : Option ℕ). unwrap_or o 0) is.length_is
-
--- ---- one chunk more, or one less
-
-pub whole_with : (old new : List Chunk) (c : Chunk) → AreWhole old → IsChunk c.bytes → new ≡ old ++ c ∷ [] → AreWhole new
-whole_with old new c whole is same =
-    All-same (λ (c : Chunk). IsChunk c.bytes) new (old ++ c ∷ []) same
-    (All-append (λ (c : Chunk). IsChunk c.bytes) old (c ∷ []) whole (All-cons (λ (c : Chunk). IsChunk c.bytes) c [] is (All-nil (λ (c : Chunk). IsChunk c.bytes))))
-
-pub whole_front : (old new : List Chunk) (n : ℕ) → AreWhole old → new ≡ take n old → AreWhole new
-whole_front old new n whole same = All-same (λ (c : Chunk). IsChunk c.bytes) new (take n old) same (All-take (λ (c : Chunk). IsChunk c.bytes) n old whole)

@@ -13,3 +13,4 @@ pub mod NumbersInFront
 pub mod EntitiesStand
 pub mod TableEntries
 pub mod FoundEntities
+pub mod WholeChunks
