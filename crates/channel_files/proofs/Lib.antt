@@ -8,3 +8,8 @@ pub mod Allowed
 pub mod Refusals
 pub mod OtherFiles
 pub mod AtOk
+pub mod NumbersInFront
+pub mod EntitiesStand
+pub mod TableEntries
+pub mod FoundEntities
+pub mod WholeChunks

@@ -5,5 +5,6 @@ pub mod Images
 pub mod Shows
 pub mod Heads
 pub mod Stores
+pub mod Whole
 pub mod Faults
 pub mod Outcomes

@@ -53,7 +53,8 @@ impl<D: Disk> ChannelFiles<D> {
     ghost use Rattle.channel_files.specs.Shows.{Shows, HasTables, HasTable, HasStored};
     ghost use Rattle.channel_files.specs.Heads.{with_new_head, with_head, heads_made, place_of, chunk_of, full_record, full_at_first, full_behind_creation};
     ghost use Rattle.channel_files.specs.Stores.{IsStore};
-    ghost use Rattle.channel_files.specs.Faults.{IsFaultOrChanged};
+    ghost use Rattle.channel_files.specs.Faults.{IsFaultOrChanged, UnlessFault};
+    ghost use Rattle.channel_files.specs.Whole.{HasWholeChunks};
     ghost use Rattle.channel_files.specs.Outcomes.{IsStored, IsDropped, IsAppended, Stays};
 
     /// The files of a disk whose log was opened. The last store counts as confirmed.
@@ -125,6 +126,7 @@ impl<D: Disk> ChannelFiles<D> {
 
         // The chunk and the table in what is read and in each image, whatever was answered, and the three cases of `Full`.
         ensures stored { IsStored D.tells D.reads D.leaves self.old self.new number chunk.now next_id result }
+        ensures whole_chunks { IsTrue D.tells → HasWholeChunks (D.reads self.old.disk) → UnlessFault result (HasWholeChunks (D.reads self.new.disk)) }
         ensures sizes { self.new.sizes ≡ self.old.sizes }
         ensures unconfirmed { self.new.confirmed ≡ self.old.confirmed }
         ensures faults { D.faults self.old.disk ≤ D.faults self.new.disk }
@@ -156,6 +158,7 @@ impl<D: Disk> ChannelFiles<D> {
 
         // The inventory and the tables with or without that store, and `Full` exactly where the log takes no record.
         ensures dropped { IsDropped D.tells D.reads D.leaves self.old self.new result }
+        ensures whole_chunks { IsTrue D.tells → HasWholeChunks (D.reads self.old.disk) → OnOk result (HasWholeChunks (D.reads self.new.disk)) }
         ensures room { self.new.transactions.inventory.spare ≡ self.old.transactions.inventory.spare }
         ensures confirmed { OnOk result (self.new.confirmed ≡ self.old.transactions.inventory.state.last_before) }
         ensures sizes { self.new.sizes ≡ self.old.sizes }

@@ -6,6 +6,7 @@ mod channel;
 mod chunk;
 mod fault;
 mod head;
+mod laws;
 mod place;
 mod record;
 mod sizes;
@@ -15,5 +16,8 @@ mod write;
 
 pub use channel::ChannelFiles;
 pub use fault::FilesFault;
+pub use laws::{
+    chunks_stay_whole, entities_begin_with_their_headers, entities_stand_in_their_files,
+};
 pub use place::Place;
 pub use sizes::Sizes;

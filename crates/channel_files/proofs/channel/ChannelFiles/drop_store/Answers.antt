@@ -10,6 +10,8 @@ use Rattle.channel_files.specs.Images.{EachAsRead}
 use Rattle.channel_files.specs.Shows.{Shows, HasTable}
 use Rattle.channel_files.specs.Heads.{full_record}
 use Rattle.channel_files.specs.Stores.{IsStore, drops_to}
+use Rattle.channel_files.specs.Whole.{HasWholeChunks}
+use Rattle.channel_files.proofs.WholeChunks.{whole_front}
 use Rattle.channel_files.proofs.Appended.{each_shows}
 use Rattle.channel_files.proofs.AtOk.{on_ok, on_ok_all, if_some, at_err, channel_of, whole_channel}
 use Rattle.channel_files.proofs.Tables.{shown_before, shown_dropped, table_dropped, number_dropped, store_at, drops_last}
@@ -59,3 +61,10 @@ returns-clause-dropped g c =
       of_disk = ensures.of_disk;
       as_read = ensures.as_read;
     })
+
+pub returns-clause-whole_chunks : goal.returns-clause-whole_chunks
+returns-clause-whole_chunks g c =
+    let r0 = g.D.Disk.reads c.self.inside.disk in
+    let r1 = g.D.Disk.reads c.drop_last.new.disk in
+    let less = take (length (content_of r0) - 1) (content_of r0) in
+    rw (← c.self.view_is) (λ told whole. on_ok c.drop_last.result (content_of r1 ≡ less) (HasWholeChunks r1) (whole_front (content_of r0) (content_of r1) (length (content_of r0) - 1) whole) (c.drop_last.ensures.content told))

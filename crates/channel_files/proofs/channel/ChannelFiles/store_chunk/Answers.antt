@@ -11,6 +11,8 @@ use Rattle.channel_files.specs.Channel.{Channel, IsOfDisk}
 use Rattle.channel_files.specs.Images.{EachAsRead}
 use Rattle.channel_files.specs.Shows.{Shows, HasStored}
 use Rattle.channel_files.specs.Heads.{chunk_of, place_of, with_head, full_at_first}
+use Rattle.channel_files.specs.Whole.{HasWholeChunks}
+use Rattle.channel_files.proofs.WholeChunks.{whole_same, whole_with, unless_fault}
 use Rattle.channel_files.proofs.Appended.{each_shows}
 use Rattle.channel_files.proofs.AtOk.{at_value, on_ok, on_ok_both, if_some, channel_with, same_channel}
 use Rattle.channel_files.proofs.Tables.{now_read, earlier_read, shown_before, shown_after}
@@ -66,3 +68,13 @@ returns-clause-stored g c =
       of_disk = ensures.of_disk;
       as_read = ensures.as_read;
     })
+
+pub returns-clause-whole_chunks : goal.returns-clause-whole_chunks
+returns-clause-whole_chunks g c =
+    let s = c.self.inside.transactions.inventory.state in
+    let r0 = g.D.Disk.reads c.self.inside.disk in
+    let r1 = g.D.Disk.reads c.store.new.disk in
+    let len = length c.args.chunk.now in
+    let chunk : Chunk = chunk_of c.args.number (place_of (with_head s c.self.inside.sizes.maximum len) len) c.args.chunk.now in
+    rw (← c.self.view_is) (λ told whole. unless_fault c.store.result (content_of r1 ≡ content_of r0 ++ chunk ∷ []) (content_of r1 ≡ content_of r0) (HasWholeChunks r1) (c.store.ensures.content told) (c.store.ensures.content_kept told)
+    (whole_with (content_of r0) (content_of r1) chunk whole c.requires.whole) (whole_same (content_of r0) (content_of r1) whole))

@@ -1,0 +1,9 @@
+//! The store that all channels of a storage have in common after a stop.
+#![tactic(auto)]
+
+mod agreement;
+
+pub use agreement::{Disagree, Last, agree};
+
+#[cfg(test)]
+mod tests;
