@@ -1,4 +1,4 @@
-use Rattle.std.proofs.Common.{◌≡◌, ◌≤◌, ◌∙◌, false, nat_lt, length, sym, arith}
+use Rattle.std.proofs.Common.{◌≤◌, ◌∙◌, length, sym, arith}
 use Rattle.std.proofs.lemmas.Bool.{le-ltb}
 use Rattle.core_hands.proofs.Sets.{has_flag, has_past}
 use Rattle.core_hands.proofs.channel_set.ChannelSet.contains.Goals as goal
