@@ -1,6 +1,6 @@
 //! Asks of a storage, each with the reply that is wanted.
 
-ghost use Rattle.std.specs.Prelude.{◌≡◌, ◌≤◌, ◌<◌, ◌^◌, true, false, ℕ, [], List, length, IfOk, OnOk};
+ghost use Rattle.std.specs.Prelude.{◌≡◌, ◌≤◌, ◌<◌, ◌^◌, true, false, ℕ, [], ◌∷◌, List, length, IfOk, OnOk};
 ghost use Rattle.store_io.specs.MemDisk.{disk_reads};
 ghost use Rattle.graph_model.specs.Graph.{Graph, lists};
 ghost use Rattle.graph_model.specs.Stores.{is_valid_store, total_size};
@@ -94,6 +94,15 @@ pub fn counted(storage: &mut PlainStorage, disk: &mut MemDisk) -> Result<u64, Fa
     }
 }
 
+/// One id.
+pub fn just(alloc: Global, id: u64) -> Result<Ids, NoMemory>
+    ensures { IfOk result (λ ids. ids ≡ id ∷ []) }
+{
+    let mut ids = Vec::new(alloc);
+    ids.push(id)?;
+    Ok(Ids::new(ids))
+}
+
 /// Whether something is reached once this id is held and nothing else is: then the graph has it.
 fn has_alone(
     alloc: Global,
@@ -107,9 +116,8 @@ fn has_alone(
     ensures listed { IfOk result (λ has. has ≡ true → lists storage.new.graph id ≡ true) }
     ensures logs { OnOk result (AreOpen storage.new (disk_reads disk.new)) }
 {
-    let mut ids = Vec::new(alloc);
-    ids.push(id)?;
-    storage.serve(disk, Ask::Hold(Ids::new(ids)))?;
+    let ids = just(alloc, id)?;
+    storage.serve(disk, Ask::Hold(ids))?;
     match storage.serve(disk, Ask::Collect)? {
         Reply::Count(count) => Ok(count > 0),
         _ => Err(Fail::new("another reply")),

@@ -1,11 +1,11 @@
 //! Disks that are opened, and the types that are kept on them.
 
-ghost use Rattle.std.specs.Prelude.{◌≡◌, ◌≤◌, true, length};
+ghost use Rattle.std.specs.Prelude.{◌≤◌, length, OnOk};
 ghost use Rattle.store_io.specs.MemDisk.{disk_reads};
 ghost use Rattle.plain_storage.specs.Keeping.{AreOpen};
 
 use crate::asking::{entity_of, next_number, type_kept};
-use graph_model::{Ask, Bytes, Entity};
+use graph_model::{Ask, Bytes, Entity, StorageFault};
 use plain_storage::{OpenFault, PlainStorage, open};
 use std::alloc::{AllocError, Global};
 use std::test::Fail;
@@ -14,17 +14,23 @@ use store_io::{Disk, MemDisk, Pick};
 /// A record of one type, of the id 16.
 const POINT: &[u8] = b"16 Point{int x,ref next}";
 
-/// Whether a type is kept.
-fn keeps(alloc: Global, storage: &mut PlainStorage, disk: &mut MemDisk, text: &[u8]) -> bool
+/// Keeps a type.
+fn keep(
+    alloc: Global,
+    storage: &mut PlainStorage,
+    disk: &mut MemDisk,
+    text: &[u8],
+) -> Result<(), StorageFault>
     requires some { 1 ≤ length text.now }
     requires size { length text.now ≤ 1048576 }
     requires logs { AreOpen storage.old (disk_reads disk.old) }
-    ensures logs { result ≡ true → AreOpen storage.new (disk_reads disk.new) }
+    ensures logs { OnOk result (AreOpen storage.new (disk_reads disk.new)) }
 {
-    match Vec::from_slice(alloc, text) {
-        Ok(text) => storage.serve(disk, Ask::KeepType(Bytes::new(text))).is_ok(),
-        Err(_) => false,
-    }
+    let Ok(text) = Vec::from_slice(alloc, text) else {
+        return Err(StorageFault::NoMemory);
+    };
+    storage.serve(disk, Ask::KeepType(Bytes::new(text)))?;
+    Ok(())
 }
 
 /// Keeps two types, and says how many were kept.
@@ -32,13 +38,13 @@ fn keep_both(alloc: Global, storage: &mut PlainStorage, disk: &mut MemDisk) -> u
     requires { AreOpen storage.old (disk_reads disk.old) }
     ensures { result ≤ 2 }
 {
-    if !keeps(alloc, storage, disk, b"16 Point{int x}") {
-        0
-    } else if !keeps(alloc, storage, disk, b"17 Line{ref from,ref to}") {
-        1
-    } else {
-        2
-    }
+    let Ok(()) = keep(alloc, storage, disk, b"16 Point{int x}") else {
+        return 0;
+    };
+    let Ok(()) = keep(alloc, storage, disk, b"17 Line{ref from,ref to}") else {
+        return 1;
+    };
+    2
 }
 
 /// Opens the disk, and keeps two types.

@@ -5,7 +5,7 @@ ghost use Rattle.store_io.specs.MemDisk.{disk_reads};
 ghost use Rattle.graph_model.specs.Stores.{is_valid_store, total_size};
 ghost use Rattle.plain_storage.specs.Keeping.{AreOpen};
 
-use crate::asking::{bare_root, counted, stored, type_kept};
+use crate::asking::{bare_root, counted, just, stored, type_kept};
 use graph_model::{Ask, Bytes, Entity, Ids, NoMemory, Record, Records, Reply, StoreOp};
 use plain_storage::{PlainStorage, open};
 use std::alloc::Global;
@@ -61,9 +61,7 @@ fn counted_without(
     requires logs { AreOpen storage.old (disk_reads disk.old) }
     ensures logs { OnOk result (AreOpen storage.new (disk_reads disk.new)) }
 {
-    let mut ids = Vec::new(alloc);
-    ids.push(1024)?;
-    storage.serve(disk, Ask::Release(Ids::new(ids)))?;
+    storage.serve(disk, Ask::Release(just(alloc, 1024)?))?;
     counted(storage, disk)
 }
 

@@ -3,8 +3,8 @@ use Rattle.session.specs.Fitting.{Fits}
 use Rattle.session.specs.Steady.{IsSteady}
 use Rattle.session_rows.proofs.answering.answer.Given as goal
 
-abbrev pub invariant-loop-_step : goal.invariant-loop-_step
-invariant-loop-_step l = record {
+abbrev pub invariant-loop-step : goal.invariant-loop-step
+invariant-loop-step l = record {
   steady : IsSteady l.session;
   fits : Fits l.given l.session.waiting;
 }
