@@ -20,3 +20,4 @@ pub mod StoresKept
 pub mod GoodStores
 pub mod Serving
 pub mod TypesKept
+pub mod EmptyDisk

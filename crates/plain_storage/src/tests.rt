@@ -1,12 +1,10 @@
-//! Disks that are opened, and the types that are kept on them.
-
-ghost use Rattle.std.specs.Prelude.{◌≤◌, length, OnOk};
+ghost use Rattle.std.specs.Prelude.{◌≤◌};
 ghost use Rattle.store_io.specs.MemDisk.{disk_reads};
-ghost use Rattle.plain_storage.specs.Keeping.{AreOpen};
+ghost use Rattle.plain_storage.specs.Logs.{IsOpen};
+ghost use Rattle.plain_storage.specs.Types.{types_header};
 
-use crate::asking::{entity_of, next_number, type_kept};
-use graph_model::{Ask, Bytes, Entity, StorageFault};
-use plain_storage::{OpenFault, PlainStorage, open};
+use crate::{OpenFault, keep_type, open};
+use gated_log::GatedLog;
 use std::alloc::{AllocError, Global};
 use std::test::Fail;
 use store_io::{Disk, MemDisk, Pick};
@@ -14,37 +12,18 @@ use store_io::{Disk, MemDisk, Pick};
 /// A record of one type, of the id 16.
 const POINT: &[u8] = b"16 Point{int x,ref next}";
 
-/// Keeps a type.
-fn keep(
-    alloc: Global,
-    storage: &mut PlainStorage,
-    disk: &mut MemDisk,
-    text: &[u8],
-) -> Result<(), StorageFault>
-    requires some { 1 ≤ length text.now }
-    requires size { length text.now ≤ 1048576 }
-    requires logs { AreOpen storage.old (disk_reads disk.old) }
-    ensures logs { OnOk result (AreOpen storage.new (disk_reads disk.new)) }
-{
-    let Ok(text) = Vec::from_slice(alloc, text) else {
-        return Err(StorageFault::NoMemory);
-    };
-    storage.serve(disk, Ask::KeepType(Bytes::new(text)))?;
-    Ok(())
-}
-
-/// Keeps two types, and says how many were kept.
-fn keep_both(alloc: Global, storage: &mut PlainStorage, disk: &mut MemDisk) -> u64
-    requires { AreOpen storage.old (disk_reads disk.old) }
+/// Keeps two types in the log, and says how many were kept.
+fn keep_both(log: &mut GatedLog, disk: &mut MemDisk) -> u64
+    requires { IsOpen 1 types_header log.old (disk_reads disk.old 1) }
     ensures { result ≤ 2 }
 {
-    let Ok(()) = keep(alloc, storage, disk, b"16 Point{int x}") else {
-        return 0;
-    };
-    let Ok(()) = keep(alloc, storage, disk, b"17 Line{ref from,ref to}") else {
-        return 1;
-    };
-    2
+    if keep_type(log, disk, b"16 Point{int x}").is_err() {
+        0
+    } else if keep_type(log, disk, b"17 Line{ref from,ref to}").is_err() {
+        1
+    } else {
+        2
+    }
 }
 
 /// Opens the disk, and keeps two types.
@@ -52,34 +31,9 @@ fn keep_two(alloc: Global, disk: &mut MemDisk) -> u64
     ensures { result ≤ 2 }
 {
     match open(alloc, disk) {
-        Ok((mut storage, _types)) => keep_both(alloc, &mut storage, disk),
+        Ok((mut storage, _types)) => keep_both(&mut storage.types_log, disk),
         Err(_) => 0,
     }
-}
-
-/// Opens the disk, keeps a type, and says how many types there were before.
-fn keep_one(alloc: Global, disk: &mut MemDisk) -> Result<u64, Fail> {
-    let (mut storage, types) = open(alloc, disk)?;
-    type_kept(alloc, &mut storage, disk, b"16 Point{int x}")?;
-    Ok(types.count())
-}
-
-/// Opens the disk, and says its next id, how many types it has, and whether there is a root.
-fn opened(alloc: Global, disk: &mut MemDisk) -> Result<(u64, u64, bool), Fail> {
-    let (storage, types) = open(alloc, disk)?;
-    Ok((storage.next_id(), types.count(), storage.is_rooted()))
-}
-
-/// Opens the disk, and says the number that the next store has.
-fn number_due(alloc: Global, disk: &mut MemDisk) -> Result<u64, Fail> {
-    let (mut storage, _types) = open(alloc, disk)?;
-    next_number(alloc, &mut storage, disk)
-}
-
-/// Opens the disk, and gives the entity of an id.
-fn entity_in(alloc: Global, disk: &mut MemDisk, id: u64) -> Result<Entity, Fail> {
-    let (mut storage, _types) = open(alloc, disk)?;
-    entity_of(alloc, &mut storage, disk, id)
 }
 
 /// The log of types with one record.
@@ -114,7 +68,9 @@ fn disk_of(alloc: Global, stores: &[u8], types: &[u8]) -> Result<MemDisk, Fail> 
 fn one_type(rt: HostRuntime) -> Result<(), Fail> {
     let alloc = rt.alloc();
     let mut disk = MemDisk::new(alloc, Vec::new(alloc), None);
-    assert_eq!(rt; keep_one(alloc, &mut disk)?, 0);
+    let (mut storage, types) = open(alloc, &mut disk)?;
+    assert_eq!(rt; types.count(), 0);
+    keep_type(&mut storage.types_log, &mut disk, b"16 Point{int x}")?;
     assert_eq!(rt; disk.len(1)?, 29);
     let mut bytes = [0u8; 29];
     disk.read(1, 0, &mut bytes)?;
@@ -122,7 +78,8 @@ fn one_type(rt: HostRuntime) -> Result<(), Fail> {
         bytes.as_slice(),
         b"ESD1\x01\x00\x01\x00\x01\x0f\x00\x00\x0016 Point{int x}\x00".as_slice()
     );
-    assert_eq!(rt; opened(alloc, &mut disk)?, (1024, 1, false));
+    let (_storage, types) = open(alloc, &mut disk)?;
+    assert_eq!(rt; types.count(), 1);
     Ok(())
 }
 
@@ -167,13 +124,17 @@ fn logs_of_types(rt: HostRuntime) -> Result<(), Fail> {
 fn an_empty_disk(rt: HostRuntime) -> Result<(), Fail> {
     let alloc = rt.alloc();
     let mut disk = MemDisk::new(alloc, Vec::new(alloc), None);
-    assert_eq!(rt; opened(alloc, &mut disk)?, (1024, 0, false));
+    let (storage, types) = open(alloc, &mut disk)?;
+    assert_eq!(rt;
+        (storage.next_id, storage.stores_log.count(), types.count()),
+        (1024, 0, 0)
+    );
+    assert!(rt; storage.graph.get(1).is_none());
     let mut bytes = [0u8; 9];
     disk.read(0, 0, &mut bytes)?;
     assert_eq!(rt; bytes.as_slice(), b"ESP1\x02\x00\x01\x00\x00".as_slice());
     disk.read(1, 0, &mut bytes)?;
     assert_eq!(rt; bytes.as_slice(), b"ESD1\x01\x00\x01\x00\x00".as_slice());
-    assert_eq!(rt; number_due(alloc, &mut disk)?, 1);
     Ok(())
 }
 
@@ -187,14 +148,21 @@ fn one_store(rt: HostRuntime) -> Result<(), Fail> {
         \x07\x00\x00\x00\x00\x00\x00\x00\x00";
     let types = b"ESD1\x01\x00\x01\x00\x01\x0f\x00\x00\x0016 Point{int x}\x00";
     let mut disk = disk_of(alloc, stores, types)?;
-    assert_eq!(rt; opened(alloc, &mut disk)?, (1025, 1, false));
-    let point = entity_in(alloc, &mut disk, 1024)?;
-    assert_eq!(rt; (point.type_id, point.refs.len()), (16, 0));
+    let (storage, types) = open(alloc, &mut disk)?;
     assert_eq!(rt;
-        point.plain.as_slice(),
-        b"\x07\x00\x00\x00\x00\x00\x00\x00".as_slice()
+        (storage.next_id, storage.stores_log.count(), types.count()),
+        (1025, 1, 1)
     );
-    assert_eq!(rt; number_due(alloc, &mut disk)?, 2);
+    match storage.graph.get(1024) {
+        Some(point) => {
+            assert_eq!(rt; (point.type_id, point.refs.len()), (16, 0));
+            assert_eq!(rt;
+                point.plain.as_slice(),
+                b"\x07\x00\x00\x00\x00\x00\x00\x00".as_slice()
+            );
+        }
+        None => assert!(rt; false),
+    }
     Ok(())
 }
 
@@ -206,7 +174,7 @@ fn next_id_of(alloc: Global, numbers: &[u64]) -> Result<Result<u64, OpenFault>, 
         &types_with(alloc, POINT)?,
     )?;
     match open(alloc, &mut disk) {
-        Ok((storage, _types)) => Ok(Ok(storage.next_id())),
+        Ok((storage, _types)) => Ok(Ok(storage.next_id)),
         Err(fault) => Ok(Err(fault)),
     }
 }
@@ -278,7 +246,8 @@ fn stops(rt: HostRuntime) -> Result<(), Fail> {
             let kept = keep_two(alloc, &mut disk);
             assert_eq!(rt; kept == 2, stop == 18);
             let mut again = disk.restart(pick, Vec::new(alloc), None)?;
-            let (_next_id, count, _rooted) = opened(alloc, &mut again)?;
+            let (_storage, types) = open(alloc, &mut again)?;
+            let count = types.count();
             assert!(rt; count == kept || count == kept + 1, "{stop} {pick:?}");
         }
     }

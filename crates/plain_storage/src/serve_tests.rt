@@ -2,12 +2,12 @@
 
 ghost use Rattle.std.specs.Prelude.{◌≡◌, ◌≤◌, ◌<◌, true, ℕ, [], ◌∷◌, List, length, IfOk, OnOk};
 ghost use Rattle.store_io.specs.MemDisk.{disk_reads};
+ghost use Rattle.graph_model.specs.Graph.{Graph};
 ghost use Rattle.graph_model.specs.Stores.{is_valid_store, total_size};
-ghost use Rattle.plain_storage.specs.Keeping.{AreOpen};
+ghost use Rattle.plain_storage.specs.Keeping.{AreOpen, MayKeep};
 
-use crate::asking::{bare_root, counted, just, stored, type_kept};
+use crate::{PlainStorage, open};
 use graph_model::{Ask, Bytes, Entity, Ids, NoMemory, Record, Records, Reply, StoreOp};
-use plain_storage::{PlainStorage, open};
 use std::alloc::Global;
 use std::test::Fail;
 use store_io::{Disk, MemDisk};
@@ -52,6 +52,64 @@ fn two_objects(alloc: Global) -> Result<StoreOp, NoMemory>
     })
 }
 
+/// The root, which names none.
+fn bare_root(alloc: Global) -> Result<StoreOp, NoMemory>
+    ensures some { IfOk result (λ op. 0 < length op.records) }
+    ensures valid { IfOk result (λ op. (g : Graph) (held : List ℕ) → is_valid_store g held 1025 op ≡ true) }
+    ensures fits { IfOk result (λ op. total_size op.records ≤ 1048560) }
+{
+    let mut records = Vec::new(alloc);
+    records.push(object(alloc, 1, 1, 0)?)?;
+    Ok(StoreOp {
+        records: Records::new(records),
+        next_id: 1025,
+    })
+}
+
+/// The number of a store that is kept.
+fn stored(storage: &mut PlainStorage, disk: &mut MemDisk, op: StoreOp) -> Result<u64, Fail>
+    requires may { MayKeep storage.old op }
+    requires logs { AreOpen storage.old (disk_reads disk.old) }
+    ensures logs { OnOk result (AreOpen storage.new (disk_reads disk.new)) }
+{
+    match storage.serve(disk, Ask::Store(op))? {
+        Reply::Stored(number) => Ok(number),
+        _ => Err(Fail::new("another reply")),
+    }
+}
+
+/// Keeps a type.
+fn type_kept(
+    alloc: Global,
+    storage: &mut PlainStorage,
+    disk: &mut MemDisk,
+    text: &[u8],
+) -> Result<(), Fail>
+    requires some { 1 ≤ length text.now }
+    requires size { length text.now ≤ 1048576 }
+    requires logs { AreOpen storage.old (disk_reads disk.old) }
+    ensures graph { OnOk result (storage.new.graph ≡ storage.old.graph) }
+    ensures next_id { OnOk result (storage.new.next_id ≡ storage.old.next_id) }
+    ensures logs { OnOk result (AreOpen storage.new (disk_reads disk.new)) }
+{
+    let ask = Ask::KeepType(Bytes::new(Vec::from_slice(alloc, text)?));
+    match storage.serve(disk, ask)? {
+        Reply::TypeKept => Ok(()),
+        _ => Err(Fail::new("another reply")),
+    }
+}
+
+/// How many entities are reached.
+fn counted(storage: &mut PlainStorage, disk: &mut MemDisk) -> Result<u64, Fail>
+    requires logs { AreOpen storage.old (disk_reads disk.old) }
+    ensures logs { OnOk result (AreOpen storage.new (disk_reads disk.new)) }
+{
+    match storage.serve(disk, Ask::Collect)? {
+        Reply::Count(count) => Ok(count),
+        _ => Err(Fail::new("another reply")),
+    }
+}
+
 /// How many entities are reached once the object 1024 is released.
 fn counted_without(
     alloc: Global,
@@ -61,7 +119,9 @@ fn counted_without(
     requires logs { AreOpen storage.old (disk_reads disk.old) }
     ensures logs { OnOk result (AreOpen storage.new (disk_reads disk.new)) }
 {
-    storage.serve(disk, Ask::Release(just(alloc, 1024)?))?;
+    let mut ids = Vec::new(alloc);
+    ids.push(1024)?;
+    storage.serve(disk, Ask::Release(Ids::new(ids)))?;
     counted(storage, disk)
 }
 
@@ -94,7 +154,7 @@ fn asks(rt: HostRuntime) -> Result<(), Fail> {
     // The root names it still.
     assert_eq!(rt; counted_without(alloc, &mut storage, &mut disk)?, 2);
     assert_eq!(rt; storage.next_id(), 1025);
-    let op = bare_root(alloc, 1025)?;
+    let op = bare_root(alloc)?;
     assert_eq!(rt; stored(&mut storage, &mut disk, op)?, 2);
     assert_eq!(rt; counted(&mut storage, &mut disk)?, 1);
     Ok(())

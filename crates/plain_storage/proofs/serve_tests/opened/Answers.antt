@@ -2,8 +2,8 @@ use Rattle.std.proofs.Common.{◌≡◌, List, ap, refl, subst, sym}
 use Rattle.store_io.specs.Files.{reads_of}
 use Rattle.store_io.specs.declared.mem_file.MemFile.{MemFile}
 use Rattle.plain_storage.specs.Held.{IsPlainStored, PlainHeld}
-use Rattle.storage_rows.proofs.EmptyDisk.{empty_files, nothing_held}
-use Rattle.storage_rows.proofs.serve_tests.opened.Goals as goal
+use Rattle.plain_storage.proofs.EmptyDisk.{empty_files, nothing_held}
+use Rattle.plain_storage.proofs.serve_tests.opened.Goals as goal
 
 pub returns-clause-graph : goal.returns-clause-graph
 returns-clause-graph c =

@@ -1,6 +1,6 @@
 use Rattle.std.proofs.Common.{[]}
-use Rattle.storage_rows.proofs.asking.type_kept.Goals as goal
-use Rattle.storage_rows.proofs.asking.type_kept.Goals.{in-TypeKept, in_default}
+use Rattle.plain_storage.proofs.serve_tests.type_kept.Goals as goal
+use Rattle.plain_storage.proofs.serve_tests.type_kept.Goals.{in-TypeKept, in_default}
 
 pub returns-clause-graph : goal.returns-clause-graph
 returns-clause-graph c = elim c.match-branch-3.branch [ in-TypeKept w ↦ rw w.result-is (c.in_ok-serve.ensures.served []).graph | in_default w ↦ rw w.result-is tt ]

@@ -1,3 +1,0 @@
--- Lemmas on what a storage holds that tests ask.
-pub mod Alone
-pub mod EmptyDisk
