@@ -1,0 +1,5 @@
+pub mod Spelled
+pub mod Tables
+pub mod Pins
+pub mod PartRows
+pub mod Chunks

@@ -1,0 +1,11 @@
+pub mod Entities
+pub mod Parts
+pub mod Taking
+pub mod State
+pub mod Attempts
+pub mod Core
+pub mod Rows
+pub mod OnDisk
+pub mod Sound
+pub mod Faults
+pub mod Full

@@ -1,0 +1,196 @@
+//! A channel, and what it is asked without a change.
+ghost use Rattle.std.specs.Prelude.{◌≡◌, ◌<◌, ◌≤◌, ◌↔◌, false, [], Some, None, ℕ, length, IsTrue, IsSome, IfSome, IfOk, IfErr};
+ghost use Rattle.std.specs.FinMap as finite;
+ghost use Rattle.store_io.specs.Whole.{EachImage};
+ghost use Rattle.gated_log.specs.Log.{Each, IsLogOf, payloads_of};
+ghost use Rattle.gated_log.specs.Of.{IsOf};
+ghost use Rattle.core_steps.specs.declared.unit.Ending.TheVariants.{Sound};
+ghost use Rattle.channel_files.specs.Channel.{IsInRange, IsOfDisk};
+ghost use Rattle.channel_files.specs.Images.{EachAsRead};
+ghost use Rattle.channel_files.specs.Whole.{HasWholeChunks};
+ghost use Rattle.channel.specs.Core.{core_of, last_part};
+ghost use Rattle.channel.specs.OnDisk.{AgreesWithImages, HoldsChannel};
+ghost use Rattle.channel.specs.Sound.{IsSound};
+
+use crate::part::{Part, Slot, zeros};
+use channel_files::{ChannelFiles, Sizes};
+use core_steps::Ending;
+use entity_index::EntityIndex;
+use gated_log::GatedLog;
+use std::alloc::Global;
+use std::marker::Model;
+use store_io::Disk;
+use transactions_file::TransactionsFile;
+
+/// The bytes of a channel's window, which is as long as the longest entity and the longest type record.
+pub(crate) const WINDOW: usize = 1_048_576;
+
+/// What a channel that failed tried last.
+#[derive(Clone, Copy, Debug)]
+pub(crate) enum Attempt {
+    /// Its part of the store of a number, with the store's next id.
+    Part { number: u64, next_id: u64 },
+    /// A type record of so many bytes, which stands at the front of the window.
+    Type { length: usize },
+}
+
+/// One of the channels of a storage: the table of the ids that belong to it, on a disk of its own. Contracts see a `ChannelState`, and by
+/// `core_of` the channel of the core that it stands for.
+///
+/// Once a call of the disk failed the channel is failed: it makes no further one, and each call that needs one answers `Fault`.
+#[derive(Drop)]
+pub struct Channel<D: Disk> {
+    pub(crate) alloc: Global,
+    pub(crate) number: u32,
+    pub(crate) count: u32,
+    pub(crate) files: ChannelFiles<D>,
+    /// The log of type records, on channel 0.
+    pub(crate) types: Option<GatedLog>,
+    pub(crate) index: EntityIndex,
+    pub(crate) prepared: Option<Part>,
+    /// What the last part replaced, until it is confirmed.
+    pub(crate) replaced: Vec<Slot>,
+    pub(crate) ending: Ending,
+    pub(crate) failed: bool,
+    pub(crate) tried: Option<Attempt>,
+    pub(crate) window: Vec<u8>,
+}
+
+impl<D: Disk> Model for Channel<D> {
+    ghost use Rattle.std.specs.Prelude.{◌≡◌, length};
+    ghost use Rattle.channel.specs.State.{ChannelState};
+    ghost use Rattle.channel.specs.Attempts.{tried_of};
+    ghost use Rattle.channel.specs.Sound.{IsSound, HasRoom};
+
+    ghost Value = { ChannelState D };
+
+    ghost view = { λ c. record {
+      number = c.number;
+      channels = c.count;
+      files = c.files;
+      types = c.types;
+      rows = c.index.contents;
+      prepared = c.prepared;
+      replaced = c.replaced.items;
+      ending = c.ending;
+      failed = c.failed;
+      tried = tried_of c.window.items c.tried;
+    } };
+
+    ghost invariant = { λ c. let state : ChannelState D = record {
+      number = c.number;
+      channels = c.count;
+      files = c.files;
+      types = c.types;
+      rows = c.index.contents;
+      prepared = c.prepared;
+      replaced = c.replaced.items;
+      ending = c.ending;
+      failed = c.failed;
+      tried = tried_of c.window.items c.tried;
+    } in IsSound D.tells D.reads state × HasRoom state c.index.spare × (length c.window.items ≡ 1048576) };
+}
+
+/// A channel was not made, for want of memory.
+#[derive(Drop)]
+pub struct NewChannel<D> {
+    pub disk: D,
+}
+
+impl<D: Disk> Channel<D> {
+    /// A channel whose table is empty, on a disk whose log was opened. The log's last store is its last part, and counts as confirmed.
+    pub fn new(
+        alloc: Global,
+        disk: D,
+        log: TransactionsFile,
+        types: Option<GatedLog>,
+        number: u32,
+        count: u32,
+        sizes: Sizes,
+    ) -> Result<Channel<D>, NewChannel<D>>
+        requires number { number < count }
+        requires channels { count ≤ 64 }
+        requires sizes { IsInRange sizes }
+        requires on_channel_0 { (number ≡ 0) ↔ IsSome types }
+        requires types_file { IfSome types (λ log. log.file ≡ 1) }
+        requires of_disk { IsTrue D.tells → IsOfDisk log (D.reads disk) }
+        requires whole { IsTrue D.tells → HasWholeChunks (D.reads disk) }
+        requires types_of_disk { IsTrue D.tells → IfSome types (λ log. IsOf log (D.reads disk 1)) }
+
+        ensures ok { IfOk result (λ c. c ≡ record {
+          number = number;
+          channels = count;
+          files = record { disk = disk; transactions = log; sizes = sizes; confirmed = log.inventory.state.last };
+          types = types;
+          rows = finite.empty;
+          prepared = None;
+          replaced = [];
+          ending = Sound;
+          failed = false;
+          tried = None;
+        }) }
+        ensures err { IfErr result (λ e. e.disk ≡ disk) }
+    {
+        let Ok(window) = zeros(alloc, WINDOW) else {
+            return Err(NewChannel { disk });
+        };
+        Ok(Channel {
+            alloc,
+            number,
+            count,
+            files: ChannelFiles::new(disk, log, sizes),
+            types,
+            index: EntityIndex::new(alloc),
+            prepared: None,
+            replaced: Vec::new(alloc),
+            ending: Ending::Sound,
+            failed: false,
+            tried: None,
+            window,
+        })
+    }
+
+    /// What holds of each channel. It does nothing.
+    pub fn stands(&self)
+        ensures sound { IsSound D.tells D.reads self.now }
+        ensures read { IsTrue D.tells → self.now.failed ≡ false → HoldsChannel D.reads self.now (D.reads self.now.files.disk) }
+        ensures images { IsTrue D.tells → self.now.failed ≡ false → AgreesWithImages D.reads D.leaves self.now → EachImage (D.leaves self.now.files.disk) (HoldsChannel D.reads self.now) }
+    {
+        let _number = self.number;
+    }
+
+    /// The number of the last store that has its part here.
+    pub fn last_part(&self) -> u64
+        ensures { result ≡ last_part self.now }
+    {
+        self.files.inventory().last_store()
+    }
+
+    /// The number of the last part that was confirmed.
+    pub fn confirmed(&self) -> u64
+        ensures { result ≡ self.now.files.confirmed }
+    {
+        self.files.confirmed()
+    }
+
+    /// How the last call ended that was refused.
+    pub fn ending(&self) -> Ending
+        ensures { result ≡ self.now.ending }
+    {
+        self.ending
+    }
+
+    /// How many ids the table has.
+    pub fn rows(&self) -> u64
+        ensures rows { result ≡ finite.len self.now.rows }
+        ensures table { result ≡ length (core_of D.reads self.now).table }
+    {
+        self.index.places()
+    }
+
+    pub fn into_disk(self) -> D
+        ensures { result ≡ self.files.disk }
+    {
+        self.files.into_disk()
+    }
+}

@@ -1,0 +1,14 @@
+//! One channel: its table of entities, on its files, with the events of the core that change it.
+#![tactic(auto)]
+
+mod channel;
+mod fault;
+mod holding;
+mod opening;
+mod part;
+mod reading;
+mod storing;
+mod typing;
+
+pub use channel::{Channel, NewChannel};
+pub use fault::ChannelFault;

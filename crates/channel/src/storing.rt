@@ -1,0 +1,150 @@
+//! A channel's part of a store: made ready, stored and confirmed.
+ghost use Rattle.std.specs.Prelude.{◌≡◌, ◌≢◌, ◌≤◌, ◌<◌, ◌+◌, ◌^◌, ◌⊎◌, true, false, None, Some, ℕ, IsTrue, IsErr, IsSome, IfSome, IfErr, IfOk, OnOk, OnErr, IsErrOf, length};
+ghost use Rattle.std.specs.List.{AllByRecursion};
+ghost use Rattle.store_io.specs.Disk.{Rose};
+ghost use Rattle.store_io.specs.Whole.{EachImage};
+ghost use Rattle.graph_model.specs.Ids.{has, rises};
+ghost use Rattle.graph_model.specs.Graph.{ids};
+ghost use Rattle.graph_model.specs.Stores.{total_size};
+ghost use Rattle.graph_model.specs.declared.entity.Record.{Record};
+ghost use Rattle.core_steps.specs.Core.{written_of};
+ghost use Rattle.core_steps.specs.Rows.{channel_step};
+ghost use Rattle.core_steps.specs.Told.{TriedPart};
+ghost use Rattle.core_hands.specs.OpenStores.{number_of, channels_of, with_part};
+ghost use Rattle.channel.specs.Core.{core_of, last_part, log_next_id, place_with};
+ghost use Rattle.channel.specs.Faults.{IsFaultOrFull, UnlessFault, ending_after, failed_after};
+ghost use Rattle.channel.specs.Full.{part_full_at_first, part_full_behind};
+ghost use Rattle.channel.specs.OnDisk.{AgreesWithImages, HoldsChannel, HoldsPart};
+ghost use Rattle.channel.specs.Parts.{IsStorable};
+
+use crate::channel::{Attempt, Channel};
+use crate::fault::{ChannelFault, note};
+use crate::part::Part;
+use channel_files::FilesFault;
+use core_hands::Hand;
+use core_steps::Event;
+use graph_model::{NoMemory, Records};
+use store_io::Disk;
+
+impl<D: Disk> Channel<D> {
+    /// Makes records ready to be stored as this channel's part of the next store, in place of those that were, and takes all memory that
+    /// this will need. They are by rising id, each of at most 1 MiB, of at most 16 MiB together. Without memory what was ready stays.
+    pub fn prepare(&mut self, part: &Records) -> Result<(), NoMemory>
+        requires ordered { rises (ids part.now) ≡ true }
+        requires storable { AllByRecursion IsStorable part.now }
+        requires most { total_size part.now ≤ 16777216 }
+
+        ensures ok { OnOk result (self.new ≡ record self.old { files = self.new.files; prepared = Some part.now }) }
+        ensures err { OnErr result (self.new ≡ record self.old { files = self.new.files }) }
+        // More files may be kept, and nothing else of the files changes.
+        ensures files { self.new.files ≡ record self.old.files { transactions = record self.old.files.transactions {
+          inventory = record { state = self.old.files.transactions.inventory.state; spare = self.new.files.transactions.inventory.spare };
+        } } }
+        ensures images { IsTrue D.tells → AgreesWithImages D.reads D.leaves self.old → AgreesWithImages D.reads D.leaves self.new }
+    {
+        let ready = Part::new(self.alloc, part)?;
+        if self.index.reserve(part.len() as u64).is_err() {
+            return Err(NoMemory);
+        }
+        self.files.prepare()?;
+        self.prepared = Some(ready);
+        Ok(())
+    }
+
+    /// Nothing is ready any more.
+    pub fn give_up(&mut self)
+        ensures { self.new ≡ record self.old { prepared = None } }
+    {
+        self.prepared = None;
+    }
+
+    /// Stores what is ready as this channel's part of the hand's open store, and pins its ids. Once it is stored nothing is ready any more.
+    ///
+    /// After a refusal it is ready still. The store then may stand on the disk or not where the answer is `Fault`.
+    pub fn store_part(
+        &mut self,
+        hand: &mut Hand,
+        number: u64,
+        next_id: u64,
+    ) -> Result<(), ChannelFault>
+        requires ready { IsSome self.old.prepared }
+        requires open { number_of hand.old.opened ≡ Some number }
+        requires in_store { has self.old.number (channels_of hand.old.opened) ≡ true }
+        requires not_yet { has self.old.number (written_of hand.old.opened) ≡ false }
+        requires number { number ≡ last_part self.old + 1 }
+        requires confirmed { self.old.files.confirmed ≡ last_part self.old }
+        requires credit { IfSome self.old.prepared (λ part. length part ≤ hand.old.credit) }
+        requires next_id { log_next_id self.old ≤ next_id }
+        requires next_id_limit { next_id ≤ 2 ^ 48 }
+
+        ensures event { IsTrue D.tells → OnOk result (IfSome self.old.prepared (λ part. channel_step (place_with self.old part) (core_of D.reads self.old) hand.old Event.StorePart ≡ Some (core_of D.reads self.new, hand.new))) }
+        ensures numbers { OnOk result ((last_part self.new ≡ number) × (log_next_id self.new ≡ next_id)) }
+        ensures stored { OnOk result (self.new.prepared ≡ None) }
+        ensures given { OnOk result (hand.new ≡ record hand.old { opened = with_part self.old.number hand.old.opened }) }
+
+        // A refusal is no event.
+        ensures no_event { IsTrue D.tells → AgreesWithImages D.reads D.leaves self.old → OnErr result (core_of D.reads self.new ≡ core_of D.reads self.old) }
+        ensures same_numbers { OnErr result ((last_part self.new ≡ last_part self.old) × (log_next_id self.new ≡ log_next_id self.old)) }
+        ensures still_ready { OnErr result (self.new.prepared ≡ self.old.prepared) }
+        ensures hand_stays { OnErr result (hand.new ≡ hand.old) }
+        ensures rows_stay { OnErr result (self.new.rows ≡ self.old.rows) }
+
+        // Whatever was answered, each image has what the channel stood for, or this and the part.
+        ensures stop { IsTrue D.tells → self.old.failed ≡ false → AgreesWithImages D.reads D.leaves self.old
+            → EachImage (D.leaves self.new.files.disk) (λ image. HoldsChannel D.reads self.old image ⊎ IfSome self.old.prepared (λ part. HoldsPart D.reads self.old number next_id part image)) }
+        ensures images { IsTrue D.tells → AgreesWithImages D.reads D.leaves self.old → UnlessFault result (AgreesWithImages D.reads D.leaves self.new) }
+
+        ensures tried { self.old.failed ≡ false → IsErrOf result ChannelFault.Fault → self.new.tried ≡ Some (TriedPart number next_id) }
+        ensures not_tried { UnlessFault result (self.new.tried ≡ self.old.tried) }
+        ensures rest { self.new ≡ record self.old {
+          files = self.new.files;
+          rows = self.new.rows;
+          prepared = self.new.prepared;
+          replaced = self.new.replaced;
+          ending = ending_after result self.old.ending;
+          failed = failed_after result self.old.failed;
+          tried = self.new.tried;
+        } }
+        ensures confirmed { self.new.files.confirmed ≡ self.old.files.confirmed }
+        // `Full` before anything is written, behind a file that was made, and in no other case.
+        ensures full { self.old.failed ≡ false → IfSome self.old.prepared (λ part. IfSome (part_full_at_first self.old number part) (λ n. IsErrOf result (ChannelFault.Full n) × (self.new.files ≡ self.old.files))) }
+        ensures full_behind { self.old.failed ≡ false → IfSome self.old.prepared (λ part. part_full_at_first self.old number part ≡ None → IfSome (part_full_behind self.old part) (λ n. IsErr result × IfErr result (IsFaultOrFull n))) }
+        ensures not_full { self.old.failed ≡ false → IfSome self.old.prepared (λ part. part_full_at_first self.old number part ≡ None → part_full_behind self.old part ≡ None → IfErr result (λ e. e ≡ ChannelFault.Fault)) }
+        ensures no_call { self.old.failed ≡ true → IsErrOf result ChannelFault.Fault × (self.new.files ≡ self.old.files) × (self.new.tried ≡ self.old.tried) }
+        ensures faults { D.faults self.old.files.disk ≤ D.faults self.new.files.disk }
+        ensures cause { self.old.failed ≡ false → IsErrOf result ChannelFault.Fault → Rose (D.faults self.old.files.disk) (D.faults self.new.files.disk) }
+    {
+        if self.failed {
+            return Err(note(&mut self.ending, &mut self.failed, ChannelFault::Fault));
+        }
+        let Some(part) = self.prepared.take() else {
+            unreachable!()
+        };
+        let fault = match self.files.store_chunk(number, part.chunk(), next_id) {
+            Ok(place) => {
+                self.replaced = part.put_rows(&mut self.index, place);
+                hand.give_part(self.number);
+                return Ok(());
+            }
+            Err(FilesFault::Full { number }) => ChannelFault::Full { number },
+            Err(FilesFault::Fault) => {
+                self.tried = Some(Attempt::Part { number, next_id });
+                ChannelFault::Fault
+            }
+            Err(_) => unreachable!(),
+        };
+        self.prepared = Some(part);
+        Err(note(&mut self.ending, &mut self.failed, fault))
+    }
+
+    /// The last part, whose store has ended, is confirmed.
+    pub fn confirm(&mut self, hand: &Hand, number: u64)
+        requires number { number ≡ last_part self.old }
+        requires ended { number ≤ hand.now.ended_seen }
+        ensures event { (part : List Record) → channel_step (place_with self.old part) (core_of D.reads self.old) hand.now Event.Confirm ≡ Some (core_of D.reads self.new, hand.now) }
+        ensures rest { self.new ≡ record self.old { files = record self.old.files { confirmed = number } } }
+    {
+        let _ended = hand.ended_seen();
+        self.files.confirm(number);
+    }
+}

@@ -1,0 +1,63 @@
+//! A type record is kept.
+ghost use Rattle.std.specs.Prelude.{◌≡◌, ◌≤◌, ◌⊎◌, ◌++◌, [], ◌∷◌, true, false, None, Some, IsTrue, length, OnOk, OnErr, IfErr, IfSome, IsErrOf};
+ghost use Rattle.store_io.specs.Disk.{Rose};
+ghost use Rattle.store_io.specs.Whole.{EachImage};
+ghost use Rattle.core_steps.specs.Told.{TriedType};
+ghost use Rattle.channel_files.specs.Heads.{full_record};
+ghost use Rattle.channel.specs.Core.{core_of, types_kept};
+ghost use Rattle.channel.specs.Faults.{UnlessFault, ending_after, failed_after};
+ghost use Rattle.channel.specs.OnDisk.{AgreesWithImages, HoldsChannel, HoldsWith};
+
+use crate::channel::{Attempt, Channel};
+use crate::fault::{ChannelFault, note};
+use channel_files::FilesFault;
+use store_io::Disk;
+
+impl<D: Disk> Channel<D> {
+    /// Keeps a type record of 1 to 1,048,576 bytes on channel 0. What the channel stands for in the core stays.
+    pub fn keep_type(&mut self, text: &[u8]) -> Result<(), ChannelFault>
+        requires channel { self.old.number ≡ 0 }
+        requires some { 1 ≤ length text.now }
+        requires most { length text.now ≤ 1048576 }
+
+        ensures kept { IsTrue D.tells → OnOk result (types_kept D.reads self.new ≡ types_kept D.reads self.old ++ text.now ∷ []) }
+        ensures not_kept { IsTrue D.tells → AgreesWithImages D.reads D.leaves self.old → OnErr result (types_kept D.reads self.new ≡ types_kept D.reads self.old) }
+        ensures core { IsTrue D.tells → core_of D.reads self.new ≡ core_of D.reads self.old }
+        // Whatever was answered, each image has what the channel stands for, and the record or not.
+        ensures stop { IsTrue D.tells → self.old.failed ≡ false → AgreesWithImages D.reads D.leaves self.old
+            → EachImage (D.leaves self.new.files.disk) (λ image. HoldsChannel D.reads self.old image ⊎ HoldsWith D.reads self.old (types_kept D.reads self.old ++ text.now ∷ []) image) }
+        ensures images { IsTrue D.tells → AgreesWithImages D.reads D.leaves self.old → UnlessFault result (AgreesWithImages D.reads D.leaves self.new) }
+        ensures tried { self.old.failed ≡ false → IsErrOf result ChannelFault.Fault → self.new.tried ≡ Some (TriedType text.now) }
+        ensures not_tried { UnlessFault result (self.new.tried ≡ self.old.tried) }
+        ensures rest { self.new ≡ record self.old {
+          files = record self.old.files { disk = self.new.files.disk };
+          types = self.new.types;
+          ending = ending_after result self.old.ending;
+          failed = failed_after result self.old.failed;
+          tried = self.new.tried;
+        } }
+        ensures full { self.old.failed ≡ false → IfSome self.old.types (λ log. IfSome (full_record log.length) (λ n. IsErrOf result (ChannelFault.Full n) × (self.new.files ≡ self.old.files))) }
+        ensures not_full { self.old.failed ≡ false → IfSome self.old.types (λ log. full_record log.length ≡ None → IfErr result (λ e. e ≡ ChannelFault.Fault)) }
+        ensures no_call { self.old.failed ≡ true → IsErrOf result ChannelFault.Fault × (self.new.files ≡ self.old.files) × (self.new.tried ≡ self.old.tried) }
+        ensures faults { D.faults self.old.files.disk ≤ D.faults self.new.files.disk }
+        ensures cause { self.old.failed ≡ false → IsErrOf result ChannelFault.Fault → Rose (D.faults self.old.files.disk) (D.faults self.new.files.disk) }
+    {
+        if self.failed {
+            return Err(note(&mut self.ending, &mut self.failed, ChannelFault::Fault));
+        }
+        let Some(log) = &mut self.types else {
+            unreachable!()
+        };
+        let fault = match self.files.keep_record(log, text) {
+            Ok(()) => return Ok(()),
+            Err(FilesFault::Full { number }) => ChannelFault::Full { number },
+            Err(FilesFault::Fault) => {
+                self.window[..text.len()].copy_from_slice(text);
+                self.tried = Some(Attempt::Type { length: text.len() });
+                ChannelFault::Fault
+            }
+            Err(_) => unreachable!(),
+        };
+        Err(note(&mut self.ending, &mut self.failed, fault))
+    }
+}
