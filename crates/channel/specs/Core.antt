@@ -6,8 +6,10 @@ use Rattle.std.specs.FinMap.{FinMap, entries}
 use Rattle.gated_log.specs.State.{LogState}
 use Rattle.gated_log.specs.Log.{payloads_of}
 use Rattle.graph_model.specs.declared.entity.Record.{Record}
-use Rattle.core_steps.specs.Core.{CoreChannel, Idle}
-use Rattle.core_steps.specs.Rows.{Place, Channel}
+use Rattle.core_steps.specs.declared.state.CoreChannel.{CoreChannel}
+use Rattle.core_steps.specs.declared.state.Phase.TheVariants.{Idle}
+use Rattle.core_steps.specs.declared.state.Place.{Place}
+use Rattle.core_steps.specs.Rows.{Channel}
 use Rattle.core_steps.specs.Told.{Told}
 use Rattle.entity_index.specs.declared.row.Row.{Row}
 use Rattle.channel.specs.Entities.{entity_in}
@@ -27,6 +29,19 @@ table_in reads rows = map (record_at reads) (entries rows)
 -- the ids whose rows are pinned, rising
 abbrev pub pins_in : FinMap nat_cmp Row → List ℕ
 pins_in rows = map (λ (e : ℕ × Row). e.0) (filter (λ (e : ℕ × Row). e.1.state.pinned) (entries rows))
+
+-- the payloads of a log that is kept, without one that was tried in vain; none where there is no log
+abbrev pub payloads_kept : List ℕ → Option LogState → List (List ℕ)
+payloads_kept bytes None = []
+payloads_kept bytes (Some log) = take log.count (payloads_of bytes)
+
+-- a log of so many bytes takes no further record
+abbrev pub is_over : ℕ → Bool
+is_over size = nat_lt (2 ^ 40 - 64) size
+
+abbrev pub is_over_in : Option LogState → Bool
+is_over_in None = false
+is_over_in (Some log) = is_over log.length
 
 module _ {D : Type 0} where
   -- the number of the last store that has its part here
@@ -53,21 +68,9 @@ module _ {D : Type 0} where
   abbrev pub place_with : ChannelState D → List Record → Place
   place_with c part = record { number = c.number; channels = c.channels; records = part }
 
-  abbrev pub payloads_kept : List ℕ → Option LogState → List (List ℕ)
-  payloads_kept bytes None = []
-  payloads_kept bytes (Some log) = take log.count (payloads_of bytes)
-
-  -- the type records that are kept on the channel, without one that was tried in vain
+  -- the type records that are kept on the channel
   abbrev pub types_kept : (D → ℕ → List ℕ) → ChannelState D → List (List ℕ)
   types_kept reads c = payloads_kept (reads c.files.disk 1) c.types
-
-  -- a log of this length takes no further record
-  abbrev pub is_over : ℕ → Bool
-  is_over length = nat_lt (2 ^ 40 - 64) length
-
-  abbrev pub is_over_in : Option LogState → Bool
-  is_over_in None = false
-  is_over_in (Some log) = is_over log.length
 
   -- one of its logs takes no further record, or the last number of a data file is in use
   abbrev pub is_full : ChannelState D → Bool

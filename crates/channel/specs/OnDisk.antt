@@ -70,11 +70,11 @@ pub record WasThere {D : Type 0} (reads : D → ℕ → List ℕ) (c : ChannelSt
   pub entity : entity_in (bytes_at (reads c.files.disk) before) ≡ e
 
 -- the image has what the channel stands for, and these type records
-pub record HoldsWith {D : Type 0} (reads : D → ℕ → List ℕ) (c : ChannelState D) (types : List (List ℕ)) (image : ℕ → List ℕ) : Type 0 where
+pub record HoldsWith {D : Type 0} (reads : D → ℕ → List ℕ) (c : ChannelState D) (records : List (List ℕ)) (image : ℕ → List ℕ) : Type 0 where
   pub now : HasRecords (last_part c) (log_next_id c) (core_of reads c).table image
   -- while the last part is not confirmed, the table at the number before has the entities of before
   pub before : c.files.confirmed ≢ last_part c → (id : ℕ) (e : Entity) → WasThere reads c id e → entity_at image (last_part c - 1) id ≡ Some e
-  pub types : IfSome c.types (λ log. IsLogOf log.header types (image 1))
+  pub types : IfSome c.types (λ log. IsLogOf log.header records (image 1))
 
 abbrev pub HoldsChannel : {D : Type 0} → (D → ℕ → List ℕ) → ChannelState D → (ℕ → List ℕ) → Type 0
 HoldsChannel reads c image = HoldsWith reads c (types_kept reads c) image

@@ -31,7 +31,7 @@ pub(crate) enum Attempt {
     /// Its part of the store of a number, with the store's next id.
     Part { number: u64, next_id: u64 },
     /// A type record of so many bytes, which stands at the front of the window.
-    Type { length: usize },
+    Record { length: usize },
 }
 
 /// One of the channels of a storage: the table of the ids that belong to it, on a disk of its own. Contracts see a `ChannelState`, and by
@@ -63,6 +63,13 @@ impl<D: Disk> Model for Channel<D> {
     ghost use Rattle.channel.specs.Sound.{IsSound, HasRoom};
 
     ghost Value = { ChannelState D };
+
+    ghost use Rattle.std.specs.Coded.{codes, coded_ℕ};
+    ghost use Rattle.std.specs.Ordering.{nat_cmp};
+    ghost use Rattle.std.specs.FinMap.{code};
+    ghost use Rattle.entity_index.specs.contracts.row.Row.{the_row};
+
+    ghost coded = { Prim.hlevel (codes, code {R = nat_cmp} coded_ℕ the_row.coded, D.code) };
 
     ghost view = { λ c. record {
       number = c.number;

@@ -53,7 +53,7 @@ impl<D: Disk> Channel<D> {
             Err(FilesFault::Full { number }) => ChannelFault::Full { number },
             Err(FilesFault::Fault) => {
                 self.window[..text.len()].copy_from_slice(text);
-                self.tried = Some(Attempt::Type { length: text.len() });
+                self.tried = Some(Attempt::Record { length: text.len() });
                 ChannelFault::Fault
             }
             Err(_) => unreachable!(),

@@ -13,3 +13,5 @@ pub mod EntitiesStand
 pub mod TableEntries
 pub mod FoundEntities
 pub mod WholeChunks
+pub mod FileOne
+pub mod LiveFiles

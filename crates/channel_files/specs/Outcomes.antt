@@ -107,3 +107,8 @@ pub record Stays {D : Type 0} (tells : Bool) (reads : D → ℕ → List ℕ) (l
   pub table : IsTrue tells → (number : ℕ) → IsSameTable (table_of (reads old.disk) number) (table_of (reads new.disk) number)
   pub as_read : IsTrue tells → AgreesWithImages reads leaves old → AgreesWithImages reads leaves new
   pub tables : IsTrue tells → AgreesWithImages reads leaves old → EachImage (leaves new.disk) (HasTables old.transactions.inventory.state.last (table_of (reads old.disk)))
+
+-- what a file reads, and what a stop may leave of it, stay
+pub record FileStays (file : ℕ) (old_reads new_reads : ℕ → List ℕ) (old_leaves new_leaves : ℕ → List ℕ → Bool) : Type 0 where
+  pub reads : new_reads file ≡ old_reads file
+  pub leaves : new_leaves file ≡ old_leaves file

@@ -9,6 +9,7 @@ ghost use Rattle.channel_files.specs.Chunks.{content_of};
 ghost use Rattle.channel_files.specs.Channel.{IsOfDisk};
 ghost use Rattle.channel_files.specs.Images.{AgreesBelow, EachAsRead, content_after};
 ghost use Rattle.channel_files.specs.Shows.{Shows, newest_of};
+ghost use Rattle.channel_files.specs.Outcomes.{FileStays};
 
 use gated_log::AppendFault;
 use store_io::Disk;
@@ -45,6 +46,8 @@ pub(crate) fn append_entry<D: Disk>(
         ⊎ Shows header (last_after s entry.now) (next_id_after s entry.now) (newest_of (Some entry.now)) (content_after (D.reads disk.old) entry.now) image) }
     ensures full { 2 ^ 40 - 64 < transactions.old.log.length → IsErrOf result (AppendFault.Full transactions.old.log.length) × (disk.new ≡ disk.old) }
     ensures not_full { transactions.old.log.length ≤ 2 ^ 40 - 64 → IfErr result (λ e. e ≡ AppendFault.Fault) }
+    // File 1 is as it was.
+    ensures types { IsTrue D.tells → FileStays 1 (D.reads disk.old) (D.reads disk.new) (D.leaves disk.old) (D.leaves disk.new) }
     ensures faults { D.faults disk.old ≤ D.faults disk.new }
     ensures cause { IsErrOf result AppendFault.Fault → Rose (D.faults disk.old) (D.faults disk.new) }
     ensures read_calls { D.read_calls disk.new ≡ D.read_calls disk.old }

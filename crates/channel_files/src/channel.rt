@@ -55,7 +55,7 @@ impl<D: Disk> ChannelFiles<D> {
     ghost use Rattle.channel_files.specs.Stores.{IsStore};
     ghost use Rattle.channel_files.specs.Faults.{IsFaultOrChanged, UnlessFault};
     ghost use Rattle.channel_files.specs.Whole.{HasWholeChunks};
-    ghost use Rattle.channel_files.specs.Outcomes.{IsStored, IsDropped, IsAppended, Stays};
+    ghost use Rattle.channel_files.specs.Outcomes.{IsStored, IsDropped, IsAppended, Stays, FileStays};
 
     /// The files of a disk whose log was opened. The last store counts as confirmed.
     pub fn new(disk: D, log: TransactionsFile, sizes: Sizes) -> ChannelFiles<D>
@@ -93,7 +93,7 @@ impl<D: Disk> ChannelFiles<D> {
         self.disk
     }
 
-    /// Makes room for at least two more files, and changes nothing else. A store needs room for one.
+    /// Makes room for at least two more files, and changes nothing else. A store that needs a new head needs room for one.
     pub fn prepare(&mut self) -> Result<(), AllocError>
         ensures room { OnOk result (2 ≤ self.new.transactions.inventory.spare) }
         ensures kept { self.old.transactions.inventory.spare ≤ self.new.transactions.inventory.spare }
@@ -117,7 +117,7 @@ impl<D: Disk> ChannelFiles<D> {
     ) -> Result<Place, FilesFault>
         requires of_disk { IsTrue D.tells → IsOfDisk self.old.transactions (D.reads self.old.disk) }
         requires confirmed { self.old.confirmed ≡ self.old.transactions.inventory.state.last }
-        requires spare { 1 ≤ self.old.transactions.inventory.spare }
+        requires spare { heads_made self.old.transactions.inventory.state self.old.sizes.maximum (length chunk.now) ≤ self.old.transactions.inventory.spare }
         requires number { number ≡ self.old.transactions.inventory.state.last + 1 }
         requires next_id { self.old.transactions.inventory.state.next_id ≤ next_id }
         requires next_id_limit { next_id ≤ 2 ^ 48 }
@@ -127,6 +127,12 @@ impl<D: Disk> ChannelFiles<D> {
         // The chunk and the table in what is read and in each image, whatever was answered, and the three cases of `Full`.
         ensures stored { IsStored D.tells D.reads D.leaves self.old self.new number chunk.now next_id result }
         ensures whole_chunks { IsTrue D.tells → HasWholeChunks (D.reads self.old.disk) → UnlessFault result (HasWholeChunks (D.reads self.new.disk)) }
+        // File 1, which has no chunk and no entry, is as it was.
+        ensures types { IsTrue D.tells → FileStays 1 (D.reads self.old.disk) (D.reads self.new.disk) (D.leaves self.old.disk) (D.leaves self.new.disk) }
+        ensures numbers { OnErr result ((self.new.transactions.inventory.state.last ≡ self.old.transactions.inventory.state.last)
+            × (self.new.transactions.inventory.state.next_id ≡ self.old.transactions.inventory.state.next_id)) }
+        ensures live { (file : ℕ) → is_live self.old.transactions.inventory.state.files file ≡ true → is_live self.new.transactions.inventory.state.files file ≡ true }
+        ensures place_live { 0 < length chunk.now → IfOk result (λ p. is_live self.new.transactions.inventory.state.files p.file ≡ true) }
         ensures sizes { self.new.sizes ≡ self.old.sizes }
         ensures unconfirmed { self.new.confirmed ≡ self.old.confirmed }
         ensures faults { D.faults self.old.disk ≤ D.faults self.new.disk }
@@ -159,6 +165,10 @@ impl<D: Disk> ChannelFiles<D> {
         // The inventory and the tables with or without that store, and `Full` exactly where the log takes no record.
         ensures dropped { IsDropped D.tells D.reads D.leaves self.old self.new result }
         ensures whole_chunks { IsTrue D.tells → HasWholeChunks (D.reads self.old.disk) → OnOk result (HasWholeChunks (D.reads self.new.disk)) }
+        // File 1, which has no chunk and no entry, is as it was.
+        ensures types { IsTrue D.tells → FileStays 1 (D.reads self.old.disk) (D.reads self.new.disk) (D.leaves self.old.disk) (D.leaves self.new.disk) }
+        ensures err { OnErr result (self.new.transactions ≡ self.old.transactions) }
+        ensures live { (file : ℕ) → is_live self.old.transactions.inventory.state.files file ≡ true → is_live self.new.transactions.inventory.state.files file ≡ true }
         ensures room { self.new.transactions.inventory.spare ≡ self.old.transactions.inventory.spare }
         ensures confirmed { OnOk result (self.new.confirmed ≡ self.old.transactions.inventory.state.last_before) }
         ensures sizes { self.new.sizes ≡ self.old.sizes }

@@ -1,5 +1,5 @@
 //! A store of a channel.
-ghost use Rattle.std.specs.Prelude.{◌≡◌, ◌≢◌, ◌⊎◌, ◌≤◌, ◌<◌, ◌-◌, ◌+◌, ◌^◌, ◌++◌, [], ◌∷◌, true, false, IsTrue, IsErr, length, OnOk, OnErr, IfOk, IfErr, IfSome, IsErrOf, None};
+ghost use Rattle.std.specs.Prelude.{◌≡◌, ◌≢◌, ◌⊎◌, ◌≤◌, ◌<◌, ◌-◌, ◌+◌, ◌^◌, ◌++◌, [], ◌∷◌, true, false, ℕ, IsTrue, IsErr, length, OnOk, OnErr, IfOk, IfErr, IfSome, IsErrOf, None};
 ghost use Rattle.store_io.specs.Disk.{Rose};
 ghost use Rattle.store_io.specs.Whole.{EachImage};
 ghost use Rattle.tx_entry.specs.declared.entry.Entry.TheVariants.{Store};
@@ -12,6 +12,7 @@ ghost use Rattle.channel_files.specs.Images.{EachAsRead};
 ghost use Rattle.channel_files.specs.Shows.{Shows};
 ghost use Rattle.channel_files.specs.Heads.{lacks_room, with_new_head, with_head, heads_made, head_end, place_of, chunk_of, full_record, full_creation, full_at_first, full_behind_creation};
 ghost use Rattle.channel_files.specs.Faults.{IsFaultOrFull, UnlessFault};
+ghost use Rattle.channel_files.specs.Outcomes.{FileStays};
 
 use crate::fault::FilesFault;
 use crate::head::{create_head, head_end, head_has_room};
@@ -42,6 +43,8 @@ fn store_behind_head<D: Disk>(
     ensures state { IfOk result (λ place. transactions.new.inventory.state ≡ after transactions.old.inventory.state (Store number place.file place.at (length chunk.now) next_id)) }
     ensures spare { transactions.new.inventory.spare ≡ transactions.old.inventory.spare }
     ensures err { OnErr result (transactions.new ≡ transactions.old) }
+    ensures live { (file : ℕ) → is_live transactions.old.inventory.state.files file ≡ true → is_live transactions.new.inventory.state.files file ≡ true }
+    ensures place_live { IfOk result (λ place. is_live transactions.new.inventory.state.files place.file ≡ true) }
     ensures of_disk { IsTrue D.tells → OnOk result (IsOfDisk transactions.new (D.reads disk.new)) }
     ensures content { IsTrue D.tells → OnOk result (content_of (D.reads disk.new) ≡ content_of (D.reads disk.old) ++ chunk_of number (head_end transactions.old.inventory.state) chunk.now ∷ []) }
     ensures as_read { IsTrue D.tells → EachAsRead transactions.old (D.reads disk.old) (D.leaves disk.old) → OnOk result (EachAsRead transactions.new (D.reads disk.new) (D.leaves disk.new)) }
@@ -52,6 +55,8 @@ fn store_behind_head<D: Disk>(
         ⊎ Shows header number next_id number (content_of (D.reads disk.old) ++ chunk_of number (head_end s) chunk.now ∷ []) image) }
     ensures full { IfSome (full_record transactions.old.log.length) (λ n. IsErrOf result (FilesFault.Full n) × (disk.new ≡ disk.old)) }
     ensures not_full { full_record transactions.old.log.length ≡ None → IfErr result (λ e. e ≡ FilesFault.Fault) }
+    // File 1 is as it was.
+    ensures types { IsTrue D.tells → FileStays 1 (D.reads disk.old) (D.reads disk.new) (D.leaves disk.old) (D.leaves disk.new) }
     ensures faults { D.faults disk.old ≤ D.faults disk.new }
     ensures cause { IsErrOf result FilesFault.Fault → Rose (D.faults disk.old) (D.faults disk.new) }
     ensures read_calls { D.read_calls disk.new ≡ D.read_calls disk.old }
@@ -81,6 +86,10 @@ fn store_in_new_head<D: Disk>(
     ensures place { IfOk result (λ place. place ≡ head_end (with_new_head transactions.old.inventory.state)) }
     ensures state { IfOk result (λ place. transactions.new.inventory.state ≡ after (with_new_head transactions.old.inventory.state) (Store number place.file place.at (length chunk.now) next_id)) }
     ensures spare { OnOk result (transactions.new.inventory.spare + 1 ≡ transactions.old.inventory.spare) }
+    ensures live { (file : ℕ) → is_live transactions.old.inventory.state.files file ≡ true → is_live transactions.new.inventory.state.files file ≡ true }
+    ensures place_live { IfOk result (λ place. is_live transactions.new.inventory.state.files place.file ≡ true) }
+    ensures numbers { OnErr result ((transactions.new.inventory.state.last ≡ transactions.old.inventory.state.last)
+        × (transactions.new.inventory.state.next_id ≡ transactions.old.inventory.state.next_id)) }
     ensures of_disk { IsTrue D.tells → UnlessFault result (IsOfDisk transactions.new (D.reads disk.new)) }
     ensures content { IsTrue D.tells → OnOk result (content_of (D.reads disk.new) ≡ content_of (D.reads disk.old) ++ chunk_of number (head_end (with_new_head transactions.old.inventory.state)) chunk.now ∷ []) }
     ensures content_kept { IsTrue D.tells → IfErr result (IsFaultOrFull (λ n. content_of (D.reads disk.new) ≡ content_of (D.reads disk.old))) }
@@ -94,6 +103,8 @@ fn store_in_new_head<D: Disk>(
     ensures full_behind { full_creation transactions.old.inventory.state transactions.old.log.length ≡ None
         → IfSome (full_record (transactions.old.log.length + 14)) (λ n. IsErr result × IfErr result (IsFaultOrFull (λ m. (m ≡ n) × (transactions.new.inventory.state ≡ with_new_head transactions.old.inventory.state)))) }
     ensures not_full { full_creation transactions.old.inventory.state transactions.old.log.length ≡ None → full_record (transactions.old.log.length + 14) ≡ None → IfErr result (λ e. e ≡ FilesFault.Fault) }
+    // File 1 is as it was.
+    ensures types { IsTrue D.tells → FileStays 1 (D.reads disk.old) (D.reads disk.new) (D.leaves disk.old) (D.leaves disk.new) }
     ensures faults { D.faults disk.old ≤ D.faults disk.new }
     ensures cause { IsErrOf result FilesFault.Fault → Rose (D.faults disk.old) (D.faults disk.new) }
     ensures read_calls { D.read_calls disk.new ≡ D.read_calls disk.old }
@@ -114,7 +125,7 @@ pub(crate) fn store<D: Disk>(
 ) -> Result<Place, FilesFault>
     requires of_disk { IsTrue D.tells → IsOfDisk transactions.old (D.reads disk.old) }
     requires maximum { maximum ≤ 2 ^ 30 }
-    requires spare { 1 ≤ transactions.old.inventory.spare }
+    requires spare { heads_made transactions.old.inventory.state maximum (length chunk.now) ≤ transactions.old.inventory.spare }
     requires number { number ≡ transactions.old.inventory.state.last + 1 }
     requires next_id { transactions.old.inventory.state.next_id ≤ next_id }
     requires next_id_limit { next_id ≤ 2 ^ 48 }
@@ -124,6 +135,10 @@ pub(crate) fn store<D: Disk>(
     ensures place { IfOk result (λ place. place ≡ place_of (with_head transactions.old.inventory.state maximum (length chunk.now)) (length chunk.now)) }
     ensures state { IfOk result (λ place. transactions.new.inventory.state ≡ after (with_head transactions.old.inventory.state maximum (length chunk.now)) (Store number place.file place.at (length chunk.now) next_id)) }
     ensures spare { OnOk result (transactions.new.inventory.spare + heads_made transactions.old.inventory.state maximum (length chunk.now) ≡ transactions.old.inventory.spare) }
+    ensures live { (file : ℕ) → is_live transactions.old.inventory.state.files file ≡ true → is_live transactions.new.inventory.state.files file ≡ true }
+    ensures place_live { 0 < length chunk.now → IfOk result (λ place. is_live transactions.new.inventory.state.files place.file ≡ true) }
+    ensures numbers { OnErr result ((transactions.new.inventory.state.last ≡ transactions.old.inventory.state.last)
+        × (transactions.new.inventory.state.next_id ≡ transactions.old.inventory.state.next_id)) }
     ensures of_disk { IsTrue D.tells → UnlessFault result (IsOfDisk transactions.new (D.reads disk.new)) }
     ensures content { let place = place_of (with_head transactions.old.inventory.state maximum (length chunk.now)) (length chunk.now) in
         IsTrue D.tells → OnOk result (content_of (D.reads disk.new) ≡ content_of (D.reads disk.old) ++ chunk_of number place chunk.now ∷ []) }
@@ -141,6 +156,8 @@ pub(crate) fn store<D: Disk>(
         (λ n. IsErr result × IfErr result (IsFaultOrFull (λ m. (m ≡ n) × (transactions.new.inventory.state ≡ with_new_head transactions.old.inventory.state)))) }
     ensures not_full { full_at_first transactions.old.inventory.state transactions.old.log.length maximum number (length chunk.now) ≡ None
         → full_behind_creation transactions.old.inventory.state transactions.old.log.length maximum (length chunk.now) ≡ None → IfErr result (λ e. e ≡ FilesFault.Fault) }
+    // File 1 is as it was.
+    ensures types { IsTrue D.tells → FileStays 1 (D.reads disk.old) (D.reads disk.new) (D.leaves disk.old) (D.leaves disk.new) }
     ensures faults { D.faults disk.old ≤ D.faults disk.new }
     ensures cause { IsErrOf result FilesFault.Fault → Rose (D.faults disk.old) (D.faults disk.new) }
     ensures read_calls { D.read_calls disk.new ≡ D.read_calls disk.old }

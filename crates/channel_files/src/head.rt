@@ -1,14 +1,15 @@
 //! The file behind which chunks are written.
-ghost use Rattle.std.specs.Prelude.{◌≡◌, ◌≤◌, ◌<◌, ◌-◌, ◌+◌, ◌^◌, not, true, false, if◌then◌else◌, IsTrue, length, OnOk, OnErr, IfErr, IfSome, IsErrOf, None};
+ghost use Rattle.std.specs.Prelude.{◌≡◌, ◌≤◌, ◌<◌, ◌-◌, ◌+◌, ◌^◌, ℕ, not, true, false, if◌then◌else◌, IsTrue, length, OnOk, OnErr, IfErr, IfSome, IsErrOf, None};
 ghost use Rattle.store_io.specs.Disk.{Rose};
 ghost use Rattle.store_io.specs.Whole.{EachImage};
-ghost use Rattle.transactions_file.specs.Files.{length_of};
+ghost use Rattle.transactions_file.specs.Files.{length_of, is_live};
 ghost use Rattle.transactions_file.specs.Inventory.{after};
 ghost use Rattle.channel_files.specs.Chunks.{content_of};
 ghost use Rattle.channel_files.specs.Channel.{IsOfDisk};
 ghost use Rattle.channel_files.specs.Images.{EachAsRead};
 ghost use Rattle.channel_files.specs.Shows.{Shows};
 ghost use Rattle.channel_files.specs.Heads.{has_room, head_end, full_creation};
+ghost use Rattle.channel_files.specs.Outcomes.{FileStays};
 
 use crate::append::append_entry;
 use crate::fault::FilesFault;
@@ -50,6 +51,7 @@ pub(crate) fn create_head<D: Disk>(
     ensures state { OnOk result (transactions.new.inventory.state ≡ after transactions.old.inventory.state (Entry.Creation (transactions.old.inventory.state.created + 1))) }
     ensures spare { OnOk result (transactions.new.inventory.spare + 1 ≡ transactions.old.inventory.spare) }
     ensures err { OnErr result (transactions.new ≡ transactions.old) }
+    ensures live { (file : ℕ) → is_live transactions.old.inventory.state.files file ≡ true → is_live transactions.new.inventory.state.files file ≡ true }
     ensures of_disk { IsTrue D.tells → OnOk result (IsOfDisk transactions.new (D.reads disk.new)) }
     ensures content { IsTrue D.tells → OnOk result (content_of (D.reads disk.new) ≡ content_of (D.reads disk.old)) }
     ensures as_read { IsTrue D.tells → EachAsRead transactions.old (D.reads disk.old) (D.leaves disk.old) → OnOk result (EachAsRead transactions.new (D.reads disk.new) (D.leaves disk.new)) }
@@ -60,6 +62,8 @@ pub(crate) fn create_head<D: Disk>(
         → EachImage (D.leaves disk.new) (Shows transactions.old.log.header s.last s.next_id 0 (content_of (D.reads disk.old))) }
     ensures full { IfSome (full_creation transactions.old.inventory.state transactions.old.log.length) (λ n. IsErrOf result (FilesFault.Full n) × (disk.new ≡ disk.old)) }
     ensures not_full { full_creation transactions.old.inventory.state transactions.old.log.length ≡ None → IfErr result (λ e. e ≡ FilesFault.Fault) }
+    // File 1 is as it was.
+    ensures types { IsTrue D.tells → FileStays 1 (D.reads disk.old) (D.reads disk.new) (D.leaves disk.old) (D.leaves disk.new) }
     ensures faults { D.faults disk.old ≤ D.faults disk.new }
     ensures cause { IsErrOf result FilesFault.Fault → Rose (D.faults disk.old) (D.faults disk.new) }
     ensures read_calls { D.read_calls disk.new ≡ D.read_calls disk.old }

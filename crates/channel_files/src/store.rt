@@ -1,13 +1,15 @@
 //! A store's chunk and its entry.
-ghost use Rattle.std.specs.Prelude.{◌≡◌, ◌≢◌, ◌⊎◌, ◌≤◌, ◌<◌, ◌-◌, ◌+◌, ◌^◌, ◌++◌, [], ◌∷◌, true, IsTrue, length, OnOk, OnErr, IfOk, IfErr, IfSome, IsErrOf, None};
+ghost use Rattle.std.specs.Prelude.{◌≡◌, ◌≢◌, ◌⊎◌, ◌≤◌, ◌<◌, ◌-◌, ◌+◌, ◌^◌, ◌++◌, [], ◌∷◌, true, ℕ, IsTrue, length, OnOk, OnErr, IfOk, IfErr, IfSome, IsErrOf, None};
 ghost use Rattle.store_io.specs.Disk.{Rose};
 ghost use Rattle.store_io.specs.Whole.{EachImage};
+ghost use Rattle.transactions_file.specs.Files.{is_live};
 ghost use Rattle.transactions_file.specs.Inventory.{after, allowed};
 ghost use Rattle.channel_files.specs.Chunks.{content_of};
 ghost use Rattle.channel_files.specs.Channel.{IsOfDisk};
 ghost use Rattle.channel_files.specs.Images.{EachAsRead};
 ghost use Rattle.channel_files.specs.Shows.{Shows};
 ghost use Rattle.channel_files.specs.Heads.{chunk_of, full_record};
+ghost use Rattle.channel_files.specs.Outcomes.{FileStays};
 
 use crate::append::append_entry;
 use crate::fault::FilesFault;
@@ -32,6 +34,7 @@ pub(crate) fn store_nothing<D: Disk>(
     ensures spare { transactions.new.inventory.spare ≡ transactions.old.inventory.spare }
     ensures log { OnOk result (transactions.new.log ≡ record transactions.old.log { length = transactions.old.log.length + 46; count = transactions.old.log.count + 1 }) }
     ensures err { OnErr result (transactions.new ≡ transactions.old) }
+    ensures live { (file : ℕ) → is_live transactions.old.inventory.state.files file ≡ true → is_live transactions.new.inventory.state.files file ≡ true }
     ensures of_disk { IsTrue D.tells → OnOk result (IsOfDisk transactions.new (D.reads disk.new)) }
     ensures content { IsTrue D.tells → OnOk result (content_of (D.reads disk.new) ≡ content_of (D.reads disk.old) ++ chunk_of number (record { file = 0; at = 0 }) [] ∷ []) }
     ensures as_read { IsTrue D.tells → EachAsRead transactions.old (D.reads disk.old) (D.leaves disk.old) → OnOk result (EachAsRead transactions.new (D.reads disk.new) (D.leaves disk.new)) }
@@ -44,6 +47,8 @@ pub(crate) fn store_nothing<D: Disk>(
         ⊎ Shows header number next_id number (content_of (D.reads disk.old) ++ chunk_of number (record { file = 0; at = 0 }) [] ∷ []) image) }
     ensures full { IfSome (full_record transactions.old.log.length) (λ n. IsErrOf result (FilesFault.Full n) × (disk.new ≡ disk.old)) }
     ensures not_full { full_record transactions.old.log.length ≡ None → IfErr result (λ e. e ≡ FilesFault.Fault) }
+    // File 1 is as it was.
+    ensures types { IsTrue D.tells → FileStays 1 (D.reads disk.old) (D.reads disk.new) (D.leaves disk.old) (D.leaves disk.new) }
     ensures faults { D.faults disk.old ≤ D.faults disk.new }
     ensures cause { IsErrOf result FilesFault.Fault → Rose (D.faults disk.old) (D.faults disk.new) }
     ensures read_calls { D.read_calls disk.new ≡ D.read_calls disk.old }
@@ -76,6 +81,7 @@ pub(crate) fn store_some<D: Disk>(
     ensures spare { transactions.new.inventory.spare ≡ transactions.old.inventory.spare }
     ensures log { OnOk result (transactions.new.log ≡ record transactions.old.log { length = transactions.old.log.length + 46; count = transactions.old.log.count + 1 }) }
     ensures err { OnErr result (transactions.new ≡ transactions.old) }
+    ensures live { (file : ℕ) → is_live transactions.old.inventory.state.files file ≡ true → is_live transactions.new.inventory.state.files file ≡ true }
     ensures of_disk { IsTrue D.tells → OnOk result (IsOfDisk transactions.new (D.reads disk.new)) }
     ensures content { IsTrue D.tells → OnOk result (content_of (D.reads disk.new) ≡ content_of (D.reads disk.old) ++ chunk_of number place chunk.now ∷ []) }
     ensures as_read { IsTrue D.tells → EachAsRead transactions.old (D.reads disk.old) (D.leaves disk.old) → OnOk result (EachAsRead transactions.new (D.reads disk.new) (D.leaves disk.new)) }
@@ -88,6 +94,8 @@ pub(crate) fn store_some<D: Disk>(
         ⊎ Shows header number next_id number (content_of (D.reads disk.old) ++ chunk_of number place chunk.now ∷ []) image) }
     ensures full { IfSome (full_record transactions.old.log.length) (λ n. IsErrOf result (FilesFault.Full n) × (disk.new ≡ disk.old)) }
     ensures not_full { full_record transactions.old.log.length ≡ None → IfErr result (λ e. e ≡ FilesFault.Fault) }
+    // File 1 is as it was.
+    ensures types { IsTrue D.tells → FileStays 1 (D.reads disk.old) (D.reads disk.new) (D.leaves disk.old) (D.leaves disk.new) }
     ensures faults { D.faults disk.old ≤ D.faults disk.new }
     ensures cause { IsErrOf result FilesFault.Fault → Rose (D.faults disk.old) (D.faults disk.new) }
     ensures read_calls { D.read_calls disk.new ≡ D.read_calls disk.old }

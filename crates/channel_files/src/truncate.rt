@@ -1,8 +1,9 @@
 //! The last store is dropped.
-ghost use Rattle.std.specs.Prelude.{◌≡◌, ◌⊎◌, ◌≤◌, ◌<◌, ◌-◌, ◌+◌, ◌^◌, ℕ, IsTrue, length, take, OnOk, OnErr, IfErr, IfSome, IsErrOf, None};
+ghost use Rattle.std.specs.Prelude.{◌≡◌, ◌⊎◌, ◌≤◌, ◌<◌, ◌-◌, ◌+◌, ◌^◌, ℕ, true, IsTrue, length, take, OnOk, OnErr, IfErr, IfSome, IsErrOf, None};
 ghost use Rattle.store_io.specs.Disk.{Rose};
 ghost use Rattle.store_io.specs.Whole.{EachImage};
 ghost use Rattle.tx_entry.specs.declared.entry.Entry.TheVariants.{Truncation};
+ghost use Rattle.transactions_file.specs.Files.{is_live};
 ghost use Rattle.transactions_file.specs.Inventory.{after, is_store_at};
 ghost use Rattle.channel_files.specs.Chunks.{content_of};
 ghost use Rattle.channel_files.specs.Channel.{IsOfDisk};
@@ -10,6 +11,7 @@ ghost use Rattle.channel_files.specs.Images.{EachAsRead};
 ghost use Rattle.channel_files.specs.Shows.{Shows};
 ghost use Rattle.channel_files.specs.Heads.{full_record};
 ghost use Rattle.channel_files.specs.Stores.{IsStore, drops_to};
+ghost use Rattle.channel_files.specs.Outcomes.{FileStays};
 
 use crate::append::append_entry;
 use crate::fault::FilesFault;
@@ -31,6 +33,7 @@ pub(crate) fn truncate<D: Disk>(
     ensures state { OnOk result (transactions.new.inventory.state ≡ after transactions.old.inventory.state (Truncation file at number)) }
     ensures spare { transactions.new.inventory.spare ≡ transactions.old.inventory.spare }
     ensures err { OnErr result (transactions.new ≡ transactions.old) }
+    ensures live { (file : ℕ) → is_live transactions.old.inventory.state.files file ≡ true → is_live transactions.new.inventory.state.files file ≡ true }
     ensures of_disk { IsTrue D.tells → OnOk result (IsOfDisk transactions.new (D.reads disk.new)) }
     ensures content { IsTrue D.tells → OnOk result (content_of (D.reads disk.new) ≡ take (length (content_of (D.reads disk.old)) - 1) (content_of (D.reads disk.old))) }
     ensures as_read { IsTrue D.tells → EachAsRead transactions.old (D.reads disk.old) (D.leaves disk.old) → OnOk result (EachAsRead transactions.new (D.reads disk.new) (D.leaves disk.new)) }
@@ -43,6 +46,8 @@ pub(crate) fn truncate<D: Disk>(
         → EachImage (D.leaves disk.new) (λ image. Shows header s.last s.next_id 0 content image ⊎ Shows header s.last_before s.next_id_before 0 (take (length content - 1) content) image) }
     ensures full { IfSome (full_record transactions.old.log.length) (λ n. IsErrOf result (FilesFault.Full n) × (disk.new ≡ disk.old)) }
     ensures not_full { full_record transactions.old.log.length ≡ None → IfErr result (λ e. e ≡ FilesFault.Fault) }
+    // File 1 is as it was.
+    ensures types { IsTrue D.tells → FileStays 1 (D.reads disk.old) (D.reads disk.new) (D.leaves disk.old) (D.leaves disk.new) }
     ensures faults { D.faults disk.old ≤ D.faults disk.new }
     ensures cause { IsErrOf result FilesFault.Fault → Rose (D.faults disk.old) (D.faults disk.new) }
     ensures read_calls { D.read_calls disk.new ≡ D.read_calls disk.old }
@@ -70,6 +75,7 @@ pub(crate) fn drop_last<D: Disk>(
     ensures err { OnErr result (transactions.new ≡ transactions.old) }
     ensures confirmed { OnOk result (confirmed.new ≡ transactions.old.inventory.state.last_before) }
     ensures not_confirmed { OnErr result (confirmed.new ≡ confirmed.old) }
+    ensures live { (file : ℕ) → is_live transactions.old.inventory.state.files file ≡ true → is_live transactions.new.inventory.state.files file ≡ true }
     ensures of_disk { IsTrue D.tells → OnOk result (IsOfDisk transactions.new (D.reads disk.new)) }
     ensures content { IsTrue D.tells → OnOk result (content_of (D.reads disk.new) ≡ take (length (content_of (D.reads disk.old)) - 1) (content_of (D.reads disk.old))) }
     ensures as_read { IsTrue D.tells → EachAsRead transactions.old (D.reads disk.old) (D.leaves disk.old) → OnOk result (EachAsRead transactions.new (D.reads disk.new) (D.leaves disk.new)) }
@@ -80,6 +86,8 @@ pub(crate) fn drop_last<D: Disk>(
         → EachImage (D.leaves disk.new) (λ image. Shows header s.last s.next_id 0 content image ⊎ Shows header s.last_before s.next_id_before 0 (take (length content - 1) content) image) }
     ensures full { IfSome (full_record transactions.old.log.length) (λ n. IsErrOf result (FilesFault.Full n) × (disk.new ≡ disk.old)) }
     ensures not_full { full_record transactions.old.log.length ≡ None → IfErr result (λ e. e ≡ FilesFault.Fault) }
+    // File 1 is as it was.
+    ensures types { IsTrue D.tells → FileStays 1 (D.reads disk.old) (D.reads disk.new) (D.leaves disk.old) (D.leaves disk.new) }
     ensures faults { D.faults disk.old ≤ D.faults disk.new }
     ensures cause { IsErrOf result FilesFault.Fault → Rose (D.faults disk.old) (D.faults disk.new) }
     ensures read_calls { D.read_calls disk.new ≡ D.read_calls disk.old }

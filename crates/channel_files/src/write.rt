@@ -6,6 +6,7 @@ ghost use Rattle.transactions_file.specs.Files.{length_in};
 ghost use Rattle.channel_files.specs.Chunks.{content_of};
 ghost use Rattle.channel_files.specs.Channel.{IsOfDisk};
 ghost use Rattle.channel_files.specs.Images.{IsAsRead, EachAsRead};
+ghost use Rattle.channel_files.specs.Outcomes.{FileStays};
 
 use data_file::append_chunk;
 use store_io::{Disk, DiskFailed};
@@ -30,6 +31,8 @@ pub(crate) fn write_behind<D: Disk>(
     ensures content { IsTrue D.tells → OnOk result (content_of (D.reads disk.new) ≡ content_of (D.reads disk.old)) }
     ensures as_read { IsTrue D.tells → EachAsRead transactions.now (D.reads disk.old) (D.leaves disk.old) → OnOk result (EachAsRead transactions.now (D.reads disk.new) (D.leaves disk.new)) }
     ensures stop { IsTrue D.tells → EachAsRead transactions.now (D.reads disk.old) (D.leaves disk.old) → EachImage (D.leaves disk.new) (IsAsRead transactions.now (D.reads disk.old)) }
+    // File 1 is as it was.
+    ensures types { IsTrue D.tells → FileStays 1 (D.reads disk.old) (D.reads disk.new) (D.leaves disk.old) (D.leaves disk.new) }
 
     ensures faults { D.faults disk.old ≤ D.faults disk.new }
     ensures cause { OnErr result (Rose (D.faults disk.old) (D.faults disk.new)) }

@@ -7,6 +7,7 @@ use Rattle.channel_files.specs.Images.{EachAsRead}
 use Rattle.channel_files.specs.Faults.{UnlessFault}
 use Rattle.channel_files.specs.Heads.{full_record, full_creation}
 use Rattle.channel_files.proofs.Refusals.{unless_fault}
+use Rattle.channel_files.proofs.FileOne.{stays_twice}
 use Rattle.channel_files.proofs.chunk.store_in_new_head.Goals as goal
 
 pub store_behind_head-requires-clause-live : goal.store_behind_head-requires-clause-live
@@ -48,3 +49,6 @@ returns-clause-as_read g c told each =
     let each1 = c.in_ok-create_head.ensures.as_read told each in
     unless_fault P (d2 ≡ d1) (t2 ≡ t1) c.store_behind_head.result (full_record t1.log.length) ensures.full ensures.not_full ensures.err
     (λ d e. subst (λ t. EachAsRead t (g.D.Disk.reads d2) (g.D.Disk.leaves d2)) (sym e) (subst (λ d. EachAsRead t1 (g.D.Disk.reads d) (g.D.Disk.leaves d)) (sym d) each1)) (ensures.as_read told each1)
+
+pub returns-clause-types : goal.returns-clause-types
+returns-clause-types g c told = stays_twice (c.create_head.ensures.types told) (c.store_behind_head.ensures.types told)

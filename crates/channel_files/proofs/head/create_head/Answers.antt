@@ -1,9 +1,11 @@
-use Rattle.std.proofs.Common.{inl, inr, ◌+◌, [], ◌∷◌, ◌++◌, arith}
+use Rattle.std.proofs.Common.{inl, inr, ◌+◌, [], ◌∷◌, ◌++◌, ap, arith}
 use Rattle.store_io.specs.Whole.{EachImage}
+use Rattle.transactions_file.specs.Inventory.{State}
 use Rattle.transactions_file.proofs.Lengths.{length_push}
 use Rattle.channel_files.specs.Images.{AgreesBelow}
 use Rattle.channel_files.proofs.Appended.{each_shows}
 use Rattle.channel_files.proofs.Changes.{agrees_less}
+use Rattle.channel_files.proofs.LiveFiles.{live_created}
 use Rattle.channel_files.proofs.head.create_head.Goals as goal
 
 pub append_entry-requires-clause-long : goal.append_entry-requires-clause-long
@@ -40,3 +42,8 @@ returns-clause-as_read g c told each =
     let more : EachImage (g.D.Disk.leaves c.args.disk.now) (AgreesBelow (files ++ (file, 0) ∷ []) (g.D.Disk.reads c.args.disk.now)) =
     λ image left. agrees_less files (files ++ (file, 0) ∷ []) (g.D.Disk.reads c.args.disk.now) image (λ f. omega (arith, length_push files file f)) (each image left).agrees in
     c.in_ok-append_entry.ensures.as_read told each more
+
+pub returns-clause-live : goal.returns-clause-live
+returns-clause-live g c =
+    let s = c.args.transactions.now.inventory.state in
+    live_created c.append_entry.new.transactions.inventory.state s.files (c.last_created-file.result + 1) (ap (λ (s : State). s.files) c.in_ok-append_entry.ensures.state)

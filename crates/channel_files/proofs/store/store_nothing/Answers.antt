@@ -1,11 +1,13 @@
 use Rattle.std.proofs.Common.{inl, inr, ℕ, List, [], refl, ap, subst, sym, arith}
 use Rattle.store_io.specs.Whole.{EachImage}
 use Rattle.transactions_file.specs.Files.{length_in, set_length}
+use Rattle.transactions_file.specs.Inventory.{State}
 use Rattle.channel_files.specs.Chunks.{Range, ranges_of, content_of}
 use Rattle.channel_files.specs.Shows.{Shows}
 use Rattle.channel_files.specs.Images.{AgreesBelow}
 use Rattle.channel_files.proofs.Changes.{one_chunk}
 use Rattle.channel_files.proofs.Within.{all_fit, zero_set}
+use Rattle.channel_files.proofs.LiveFiles.{live_resized}
 use Rattle.channel_files.proofs.store.store_nothing.Goals as goal
 use Rattle.gated_log.specs.Log.{payloads_of}
 
@@ -52,3 +54,7 @@ returns-clause-as_read g c told each =
     let more : EachImage (g.D.Disk.leaves c.args.disk.now) (AgreesBelow (set_length t.inventory.state.files 0 0) (g.D.Disk.reads c.args.disk.now)) =
     λ image left. subst (λ (l : List (ℕ × ℕ)). AgreesBelow l (g.D.Disk.reads c.args.disk.now) image) (sym (zero_set t.inventory.state 0 0 fit.sound refl)) (each image left).agrees in
     c.in_ok-append_entry.ensures.as_read told each more
+
+pub returns-clause-live : goal.returns-clause-live
+returns-clause-live g c =
+    live_resized c.append_entry.new.transactions.inventory.state c.args.transactions.now.inventory.state.files 0 0 (ap (λ (s : State). s.files) c.in_ok-append_entry.ensures.state)

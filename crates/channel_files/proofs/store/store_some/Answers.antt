@@ -1,11 +1,14 @@
-use Rattle.std.proofs.Common.{inl, inr, ◌≤◌, ◌+◌, length, subst, ◌∙◌, arith}
+use Rattle.std.proofs.Common.{inl, inr, ◌≤◌, ◌+◌, length, ap, subst, ◌∙◌, arith}
 use Rattle.gated_log.specs.Log.{payloads_of}
+use Rattle.transactions_file.specs.Inventory.{State}
 use Rattle.channel_files.specs.Chunks.{Range, ranges_of, content_of}
 use Rattle.channel_files.specs.Shows.{Shows}
 use Rattle.channel_files.proofs.Within.{store_behind, two_up}
 use Rattle.channel_files.proofs.Written.{reaches, stands}
 use Rattle.channel_files.proofs.Appended.{each_shows, shows_read, as_read_holds}
 use Rattle.channel_files.proofs.Changes.{long_set, agrees_set, one_chunk}
+use Rattle.channel_files.proofs.FileOne.{stays_twice}
+use Rattle.channel_files.proofs.LiveFiles.{live_resized}
 use Rattle.channel_files.proofs.store.store_some.Goals as goal
 
 pub returns-then-length-gt-FULL-clause-shows : goal.returns-then-length-gt-FULL-clause-shows
@@ -114,3 +117,14 @@ returns-clause-as_read g c told each =
     let each1 = c.in_ok-write_behind.ensures.as_read told each in
     let more = agrees_set s.files c.args.place.file (c.args.place.at + length c.args.chunk.now) here.live r1 reach (g.D.Disk.leaves c.write_behind.new.disk) (c.in_ok-write_behind.ensures.durable told) (λ image left. (each1 image left).agrees) in
     c.in_ok-append_entry.ensures.as_read told each1 more
+
+pub returns-in_err-append_entry-clause-types : goal.returns-in_err-append_entry-clause-types
+returns-in_err-append_entry-clause-types g c told = stays_twice (c.write_behind.ensures.types told) (c.append_entry.ensures.types told)
+
+pub returns-clause-types : goal.returns-clause-types
+returns-clause-types g c told = stays_twice (c.write_behind.ensures.types told) (c.append_entry.ensures.types told)
+
+pub returns-clause-live : goal.returns-clause-live
+returns-clause-live g c =
+    let s = c.args.transactions.now.inventory.state in
+    live_resized c.append_entry.new.transactions.inventory.state s.files c.args.place.file (c.args.place.at + length c.args.chunk.now) (ap (λ (s : State). s.files) c.in_ok-append_entry.ensures.state)

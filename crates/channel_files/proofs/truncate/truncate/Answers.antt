@@ -1,13 +1,15 @@
-use Rattle.std.proofs.Common.{inl, inr, subst, ◌∙◌, arith}
+use Rattle.std.proofs.Common.{inl, inr, ap, subst, ◌∙◌, arith}
 use Rattle.store_io.specs.Whole.{EachImage}
 use Rattle.gated_log.specs.Log.{payloads_of}
 use Rattle.transactions_file.specs.Files.{set_length}
+use Rattle.transactions_file.specs.Inventory.{State}
 use Rattle.channel_files.specs.Chunks.{ranges_of}
 use Rattle.channel_files.specs.Images.{AgreesBelow}
 use Rattle.channel_files.specs.Shows.{Shows}
 use Rattle.channel_files.proofs.Within.{all_fit, undo_less}
 use Rattle.channel_files.proofs.Changes.{agrees_less}
 use Rattle.channel_files.proofs.Tables.{content_dropped}
+use Rattle.channel_files.proofs.LiveFiles.{live_resized}
 use Rattle.channel_files.proofs.truncate.truncate.Goals as goal
 
 pub append_entry-requires-clause-long : goal.append_entry-requires-clause-long
@@ -62,3 +64,7 @@ returns-clause-as_read g c told each =
     let less = undo_less s (ranges_of (payloads_of (r0 0))) s.entry c.args.file c.args.at c.args.number c.requires.last fit.undone in
     let more : EachImage (g.D.Disk.leaves c.args.disk.now) (AgreesBelow (set_length s.files c.args.file c.args.at) r0) = λ image left. agrees_less s.files (set_length s.files c.args.file c.args.at) r0 image less (each image left).agrees in
     c.in_ok-append_entry.ensures.as_read told each more
+
+pub returns-clause-live : goal.returns-clause-live
+returns-clause-live g c =
+    live_resized c.append_entry.new.transactions.inventory.state c.args.transactions.now.inventory.state.files c.args.file c.args.at (ap (λ (s : State). s.files) c.in_ok-append_entry.ensures.state)

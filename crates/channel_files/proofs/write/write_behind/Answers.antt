@@ -1,5 +1,6 @@
 use Rattle.std.proofs.Common.{length}
 use Rattle.channel_files.proofs.Written.{stop_write, of_disk_write, content_write, as_read_write}
+use Rattle.channel_files.proofs.FileOne.{stays_beside_data}
 use Rattle.channel_files.proofs.write.write_behind.Goals as goal
 
 pub returns-in_err-append_chunk-clause-stop : goal.returns-in_err-append_chunk-clause-stop
@@ -56,3 +57,9 @@ returns-clause-as_read g c told each =
     let l1 = g.D.Disk.leaves c.append_chunk.new.disk in
     let others = c.append_chunk.ensures.others told in
     as_read_write t r0 c.args.file c.args.at d c.requires.behind c.requires.apart c.args.bytes.now r1 l0 l1 (c.requires.within told) (c.in_ok-append_chunk.ensures.written told) others (c.append_chunk.ensures.stop told) each
+
+pub returns-in_err-append_chunk-clause-types : goal.returns-in_err-append_chunk-clause-types
+returns-in_err-append_chunk-clause-types g c told = stays_beside_data c.args.file c.requires.apart (c.append_chunk.ensures.others told)
+
+pub returns-clause-types : goal.returns-clause-types
+returns-clause-types g c told = stays_beside_data c.args.file c.requires.apart (c.append_chunk.ensures.others told)
