@@ -1,5 +1,5 @@
 //! What a channel's table is filled with when it is opened.
-ghost use Rattle.std.specs.Prelude.{◌≡◌, ◌≢◌, true, false, Some, IsTrue, OnOk, OnErr, IfErr, IsErrOf};
+ghost use Rattle.std.specs.Prelude.{◌≡◌, ◌≤◌, true, false, None, Some, IsTrue, OnOk, OnErr, IfErr, IfSome, IsErrOf};
 ghost use Rattle.std.specs.FinMap as finite;
 ghost use Rattle.store_io.specs.Disk.{Rose};
 ghost use Rattle.entity_form.specs.Spelling.{IsHeaderOf};

@@ -130,6 +130,8 @@ fn header_of(object: &Record) -> Header
     ensures right { IsRightRecord object.now }
 {
     // A number fits its type once it is read.
+    let _id = object.id;
+    let _type_id = object.entity.type_id;
     let refs = object.entity.refs.as_slice();
     let plain = object.entity.plain.as_slice();
     let length = HEADER_BYTES + REF * refs.len() + plain.len();

@@ -1,0 +1,79 @@
+-- No id has a row, and the disk reads as the log that was opened.
+use Rattle.std.proofs.Common.{◌≡◌, ◌<◌, ◌≤◌, ◌↔◌, ℕ, Bool, false, List, [], Option, Some, None, IsTrue, IsSome, IfSome, refl, sym, subst, ◌∙◌}
+use Rattle.std.proofs.lemmas.Bool.{false≢true}
+use Rattle.std.specs.Ordering.{nat_cmp}
+use Rattle.std.specs.FinMap.{FinMap, empty, get, get-empty}
+use Rattle.gated_log.specs.State.{LogState}
+use Rattle.gated_log.specs.Of.{IsOf}
+use Rattle.core_steps.specs.declared.unit.Ending.TheVariants.{Sound}
+use Rattle.transactions_file.specs.Transactions.{Transactions}
+use Rattle.channel_files.specs.declared.sizes.Sizes.{Sizes}
+use Rattle.channel_files.specs.Channel.{Channel, IsInRange, IsOfDisk}
+use Rattle.channel_files.specs.Whole.{HasWholeChunks}
+use Rattle.entity_index.specs.declared.row.Row.{Row}
+use Rattle.channel.specs.declared.part.Slot.{Slot}
+use Rattle.channel.specs.State.{ChannelState}
+use Rattle.channel.specs.Sound.{IsSound, HasRoom}
+use Rattle.channel.proofs.channel.Channel.new.Goals as goal
+
+no_row : (id : ℕ) (row : Row) → get (empty {R = nat_cmp}) id ≡ Some row → ⊥
+no_row id row is = apart row (sym (get-empty nat_cmp id) ∙ is)
+  where
+    apart : (row : Row) → ◌≡◌ {A = Option Row} None (Some row) → ⊥
+    apart row e = cc
+
+-- a channel that was just made, over these files
+abbrev made : {D : Type 0} → ℕ → ℕ → Channel D → Option LogState → FinMap nat_cmp Row → List Slot → ChannelState D
+made number count files types rows replaced = record {
+  number = number;
+  channels = count;
+  files = files;
+  types = types;
+  rows = rows;
+  prepared = None;
+  replaced = replaced;
+  ending = Sound;
+  failed = false;
+  tried = None;
+}
+
+abbrev opened : {D : Type 0} → D → Transactions → Sizes → Channel D
+opened disk log sizes = record { disk = disk; transactions = log; sizes = sizes; confirmed = log.inventory.state.last }
+
+module _ {D : Type 0} (tells : Bool) (reads : D → ℕ → List ℕ) (number count : ℕ) (disk : D) (log : Transactions) (sizes : Sizes) (types : Option LogState) (replaced : List Slot)
+    (number_is : number < count) (channels : count ≤ 64) (in_range : IsInRange sizes) (on_channel_0 : (number ≡ 0) ↔ IsSome types) (types_file : IfSome types (λ log. log.file ≡ 1))
+    (of_disk : IsTrue tells → IsOfDisk log (reads disk)) (whole : IsTrue tells → HasWholeChunks (reads disk)) (types_of_disk : IsTrue tells → IfSome types (λ log. IsOf log (reads disk 1))) where
+  made_sound : IsSound tells reads (made number count (opened disk log sizes) types empty replaced)
+  made_sound = record {
+    number = number_is;
+    channels = channels;
+    sizes = in_range;
+    rows = λ id row is. absurd (no_row id row is);
+    types = on_channel_0;
+    types_file = types_file;
+    on_disk = λ told sound. record {
+      of_disk = of_disk told;
+      whole = whole told;
+      rows = λ id row is. absurd (no_row id row is);
+      before = λ unconfirmed. absurd (unconfirmed refl);
+      types = types_of_disk told;
+    };
+  }
+
+  sound_over : (files : Channel D) (rows : FinMap nat_cmp Row) → files ≡ opened disk log sizes → rows ≡ empty → IsSound tells reads (made number count files types rows replaced)
+  sound_over files rows files_is rows_is =
+      subst (λ (files : Channel D). IsSound tells reads (made number count files types rows replaced)) (sym files_is)
+      (subst (λ (rows : FinMap nat_cmp Row). IsSound tells reads (made number count (opened disk log sizes) types rows replaced)) (sym rows_is) made_sound)
+
+-- nothing is prepared
+room_for_nothing : {D : Type 0} (number count : ℕ) (files : Channel D) (types : Option LogState) (rows : FinMap nat_cmp Row) (replaced : List Slot) (spare : ℕ) → HasRoom (made number count files types rows replaced) spare
+room_for_nothing number count files types rows replaced spare = record { rows = tt; files = λ some. absurd (false≢true some) }
+
+pub invariant_of-result : goal.invariant_of-result
+invariant_of-result g c =
+    let requires = c.requires in (
+      sound_over g.D.Disk.tells g.D.Disk.reads c.args.number c.args.count c.args.disk c.args.log c.args.sizes c.args.types c.new-3.result.items requires.number requires.channels requires.sizes requires.on_channel_0
+          requires.types_file requires.of_disk requires.whole requires.types_of_disk c.new.result c.new-2.result.contents c.new.ensures.value c.new-2.ensures.rows,
+      room_for_nothing c.args.number c.args.count c.new.result c.args.types c.new-2.result.contents c.new-3.result.items c.new-2.result.spare,
+      c.in-Ok.ensures,
+    )
