@@ -5,4 +5,8 @@ pub mod PartRows
 pub mod Chunks
 pub mod Images
 pub mod OnDisks
+pub mod Sounds
 pub mod Stored
+pub mod Prepared
+pub mod Parted
+pub mod PartImages

@@ -56,7 +56,7 @@ stands_as reads number id row bytes whole is header =
 stands_still : (old new : ℕ → List ℕ) (last number id : ℕ) (row : Row) → HasWholeChunks new → Stands old last id row → table_of new number id ≡ table_of old last id → StandsAs new number id row (bytes_at old row)
 stands_still old new last number id row whole stood same = record { stands = stands_again old new last number id row stood whole same; bytes_are = bytes_again old new last number id row stood whole same }
 
-spot_right : (at : ℕ) (rs : List Record) (x : ℕ) (s : Spot) → AllByRecursion IsRightRecord rs → spot_of at rs x ≡ Some s → IsRightRecord s.of
+pub spot_right : (at : ℕ) (rs : List Record) (x : ℕ) (s : Spot) → AllByRecursion IsRightRecord rs → spot_of at rs x ≡ Some s → IsRightRecord s.of
 spot_right at [] x s all is = absurd cc
 spot_right at (r ∷ rs) x s all is = (elim (nat_eq x r.id) as (λ (b : Bool). cond b (Some (record { at = at; of = r })) (spot_of (at + entity_size r.entity) rs x) ≡ Some s → IsRightRecord s.of) [
   | true ↦ λ here. subst IsRightRecord (of_same (record { at = at; of = r }) s here) all.0

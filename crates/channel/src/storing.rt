@@ -117,24 +117,29 @@ impl<D: Disk> Channel<D> {
         if self.failed {
             return Err(note(&mut self.ending, &mut self.failed, ChannelFault::Fault));
         }
-        let Some(part) = self.prepared.take() else {
+        let Some(part) = &self.prepared else {
             unreachable!()
         };
-        let fault = match self.files.store_chunk(number, part.chunk(), next_id) {
+        match self.files.store_chunk(number, part.chunk(), next_id) {
             Ok(place) => {
+                let Some(part) = self.prepared.take() else {
+                    unreachable!()
+                };
                 self.replaced = part.put_rows(&mut self.index, place);
                 hand.give_part(self.number);
-                return Ok(());
+                Ok(())
             }
-            Err(FilesFault::Full { number }) => ChannelFault::Full { number },
+            Err(FilesFault::Full { number: full }) => {
+                let fault = ChannelFault::Full { number: full };
+                Err(note(&mut self.ending, &mut self.failed, fault))
+            }
             Err(FilesFault::Fault) => {
                 self.tried = Some(Attempt::Part { number, next_id });
-                ChannelFault::Fault
+                let fault = ChannelFault::Fault;
+                Err(note(&mut self.ending, &mut self.failed, fault))
             }
             Err(_) => unreachable!(),
-        };
-        self.prepared = Some(part);
-        Err(note(&mut self.ending, &mut self.failed, fault))
+        }
     }
 
     /// The last part, whose store has ended, is confirmed.
