@@ -1,5 +1,5 @@
 -- The chunk of a part: whole entities, and where each stands.
-use Rattle.std.proofs.Common.{◌≡◌, ℕ, zero, suc, ◌+◌, ◌-◌, ◌<◌, ◌≤◌, ◌==◌, if◌then◌else◌, ◌&&◌, Bool, true, false, cond, List, [], ◌∷◌, ◌++◌, map, length, take, Option, Some, None, unwrap_or, option_map, refl, ap, sym, subst, ◌∙◌, arith, length-append, inl, inr}
+use Rattle.std.proofs.Common.{◌≡◌, ℕ, suc, ◌+◌, ◌-◌, ◌<◌, ◌≤◌, ◌==◌, if◌then◌else◌, Bool, true, false, cond, List, [], ◌∷◌, ◌++◌, map, length, take, Option, Some, None, unwrap_or, option_map, refl, ap, sym, ◌∙◌, arith, length-append, inl, inr}
 use Rattle.std.specs.Prelude.{nat_eq, nat_lt}
 use Rattle.std.specs.List.{AllByRecursion, flat_map}
 use Rattle.std.specs.Option.{option_or}
@@ -17,7 +17,7 @@ use Rattle.channel_files.specs.declared.place.Place.{Place}
 use Rattle.channel_files.specs.Heads.{chunk_of}
 use Rattle.channel_files.specs.Table.{Occurrence, occurrence, occurrences_from, last_of, occurrences_of}
 use Rattle.channel_files.proofs.NumbersInFront.{number_in_front, number_there}
-use Rattle.channel.specs.Entities.{header_for, chunk_for}
+use Rattle.channel.specs.Entities.{chunk_for}
 use Rattle.channel.specs.Parts.{IsRightRecord}
 use Rattle.channel.proofs.Spelled.{spelled, header_spelled}
 use Rattle.channel.proofs.PartRows.{Spot, spot_of}

@@ -1,20 +1,22 @@
 -- What an image that shows a channel's chunks has of the channel.
-use Rattle.std.proofs.Common.{◌≡◌, ◌≢◌, ℕ, ◌-◌, List, length, take, map, Option, Some, None, option_map, IfSome, refl, sym, ap, subst, ◌∙◌, arith}
+use Rattle.std.proofs.Common.{◌≡◌, ◌≢◌, ℕ, ◌-◌, Bool, IsTrue, List, length, take, map, Option, Some, None, option_map, IfSome, refl, sym, ap, subst, ◌∙◌, arith}
 use Rattle.std.specs.FinMap.{get}
 use Rattle.std.proofs.lemmas.List.{take_all}
 use Rattle.gated_log.specs.State.{LogState}
-use Rattle.gated_log.specs.Log.{IsLogOf, payloads_of}
+use Rattle.store_io.specs.Whole.{EachImage}
+use Rattle.gated_log.specs.Log.{Each, IsLogOf, payloads_of}
 use Rattle.gated_log.specs.Of.{IsOf}
 use Rattle.graph_model.specs.declared.entity.Entity.{Entity}
 use Rattle.transactions_file.specs.Inventory.{State, inventory_of}
 use Rattle.channel_files.specs.Chunks.{Chunk, content_of}
 use Rattle.channel_files.specs.Shows.{Shows}
 use Rattle.channel_files.specs.Table.{Occurrence, table_at, table_of}
+use Rattle.channel_files.proofs.Appended.{each_shows}
 use Rattle.entity_index.specs.declared.row.Row.{Row}
 use Rattle.channel.specs.Entities.{entity_in}
 use Rattle.channel.specs.State.{ChannelState}
 use Rattle.channel.specs.Core.{bytes_at, core_of, last_part, log_next_id, payloads_kept, types_kept}
-use Rattle.channel.specs.OnDisk.{HasAll, HasRecords, HoldsWith, IsOnDisk, Stands, WasThere, entity_at, row_before}
+use Rattle.channel.specs.OnDisk.{AgreesWithImages, HasAll, HasRecords, HoldsWith, IsOnDisk, Stands, WasThere, entity_at, row_before}
 use Rattle.channel.proofs.Tables.{entity_of_table, entity_under}
 
 -- what an option was mapped from
@@ -35,6 +37,11 @@ kept_in (Some log) bytes is = take_all log.count (payloads_of bytes) (omega (ari
 pub types_in : (o : Option LogState) (bytes image : List ℕ) → IfSome o (λ log. IsOf log bytes) → IfSome o (λ log. IsLogOf log.header (payloads_of bytes) image) → IfSome o (λ log. IsLogOf log.header (payloads_kept bytes o) image)
 types_in None bytes image is log = tt
 types_in (Some log) bytes image is there = subst (λ (ps : List (List ℕ)). IsLogOf log.header ps image) (sym (kept_in (Some log) bytes is)) there
+
+-- a log that each image has
+pub each_log : (o : Option LogState) (leaves : List ℕ → Bool) (bytes image : List ℕ) → IfSome o (λ log. Each leaves (IsLogOf log.header (payloads_of bytes))) → IsTrue (leaves image) → IfSome o (λ log. IsLogOf log.header (payloads_of bytes) image)
+each_log None leaves bytes image each left = tt
+each_log (Some log) leaves bytes image each left = each image left
 
 -- what is read of a log is that log
 pub types_read : (o : Option LogState) (bytes : List ℕ) → IfSome o (λ log. IsOf log bytes) → IfSome o (λ log. IsLogOf log.header (payloads_of bytes) bytes)
@@ -79,3 +86,10 @@ pub holds_read : {D : Type 0} (reads : D → ℕ → List ℕ) (c : ChannelState
 holds_read reads c on =
     let bytes = reads c.files.disk 1 in
     holds reads c on (reads c.files.disk) refl (types_kept reads c) c.files.transactions.inventory.state on.of_disk.kept.inventory refl refl (types_in c.types bytes bytes on.types (types_read c.types bytes on.types))
+
+-- so has each image that a stop may leave
+pub holds_left : {D : Type 0} (reads : D → ℕ → List ℕ) (leaves : D → ℕ → List ℕ → Bool) (c : ChannelState D) → IsOnDisk reads c → AgreesWithImages reads leaves c → EachImage (leaves c.files.disk) (HoldsWith reads c (types_kept reads c))
+holds_left reads leaves c on agrees image left =
+    let r = reads c.files.disk in
+    holds_shown reads c on image (types_kept reads c) (each_shows c.files.transactions r (leaves c.files.disk) on.of_disk agrees.files image left)
+    (types_in c.types (r 1) (image 1) on.types (each_log c.types (leaves c.files.disk 1) (r 1) (image 1) agrees.types (left 1)))

@@ -6,7 +6,10 @@ pub mod Chunks
 pub mod Images
 pub mod OnDisks
 pub mod Sounds
+pub mod Lookups
+pub mod FoundRows
 pub mod Stored
 pub mod Prepared
 pub mod Parted
 pub mod PartImages
+pub mod Events

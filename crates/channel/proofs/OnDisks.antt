@@ -1,5 +1,5 @@
 -- Rows where the chunks of what is read stay, or become more.
-use Rattle.std.proofs.Common.{◌≡◌, ◌≢◌, ℕ, ◌-◌, List, length, take, drop, Option, Some, None, IfSome, refl, ap, sym, subst, ◌∙◌}
+use Rattle.std.proofs.Common.{◌≡◌, ◌≢◌, ℕ, ◌+◌, ◌-◌, ◌≤◌, List, length, take, drop, Option, Some, None, IfSome, refl, ap, sym, subst, ◌∙◌, arith}
 use Rattle.std.specs.Ordering.{nat_cmp}
 use Rattle.std.specs.FinMap.{FinMap, get}
 use Rattle.gated_log.specs.State.{LogState}
@@ -14,7 +14,7 @@ use Rattle.channel_files.specs.Table.{Occurrence, table_at, table_of}
 use Rattle.channel_files.specs.Channel.{IsOfDisk}
 use Rattle.channel_files.specs.Whole.{HasWholeChunks, header_of}
 use Rattle.channel_files.proofs.WholeChunks.{whole_same}
-use Rattle.channel_files.proofs.FoundEntities.{IsThere, found_there, header_there, length_told}
+use Rattle.channel_files.proofs.FoundEntities.{IsThere, found_in_live, found_there, header_there, length_told}
 use Rattle.entity_index.specs.declared.row.Row.{Row}
 use Rattle.channel.specs.declared.part.Slot.{Slot}
 use Rattle.channel.specs.State.{ChannelState}
@@ -43,6 +43,12 @@ module _ (reads : ℕ → List ℕ) (number id : ℕ) (row : Row) (whole : HasWh
   pub row_header_there : Stands reads number id row → IsHeaderAt (reads row.file) row.at row.header
   row_header_there stands =
       subst (IsHeaderAt (reads row.file) row.at) stands.header (header_there reads (told_by reads id row) (there stands))
+
+  -- and the file has them all
+  pub row_within : (t : Transactions) → IsOfDisk t reads → Stands reads number id row → row.at + row.header.length ≤ length (reads row.file)
+  row_within t d stands =
+      let within = (found_in_live t reads number id (told_by reads id row) d stands.last).within in
+      omega (arith, within, d.long row.file, row_length stands)
 
 -- where the entity of the id stays, its row stands as it did, with the same bytes under it
 module _ (old new : ℕ → List ℕ) (last number id : ℕ) (row : Row) (stands : Stands old last id row) (whole : HasWholeChunks new)

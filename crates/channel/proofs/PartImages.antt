@@ -15,6 +15,7 @@ use Rattle.channel_files.specs.declared.place.Place.{Place}
 use Rattle.channel_files.specs.Channel.{Channel}
 use Rattle.channel_files.specs.Chunks.{Chunk, content_of}
 use Rattle.channel_files.specs.Heads.{chunk_of}
+use Rattle.channel_files.specs.Images.{EachAsRead}
 use Rattle.channel_files.specs.Outcomes.{FileStays, IsStored, next_place}
 use Rattle.channel_files.specs.Shows.{HasStored, HasTables, Shows}
 use Rattle.channel_files.specs.Table.{Occurrence, last_of, occurrences_of, table_of, with_chunk}
@@ -27,7 +28,7 @@ use Rattle.channel.specs.OnDisk.{AgreesWithImages, HasAll, HoldsChannel, HoldsPa
 use Rattle.channel.specs.Parts.{IsPart}
 use Rattle.channel.specs.State.{ChannelState}
 use Rattle.channel.proofs.Chunks.{chunk_is_whole, last_in_chunk, occurrence_at}
-use Rattle.channel.proofs.Images.{holds_shown, mapped_from, types_in}
+use Rattle.channel.proofs.Images.{each_log, holds_shown, mapped_from, types_in}
 use Rattle.channel.proofs.OnDisks.{bytes_again}
 use Rattle.channel.proofs.PartRows.{Spot, entity_of_spot, spot_of}
 use Rattle.channel.proofs.Spelled.{entity_spelled, spelled}
@@ -36,10 +37,6 @@ use Rattle.channel.proofs.Tables.{entity_of_table, entity_under, table_read_same
 
 one_state : (a b : State) → ◌≡◌ {A = Option State} (Some a) (Some b) → a ≡ b
 one_state a b e = cc
-
-each_log : (o : Option LogState) (leaves : List ℕ → Bool) (bytes image : List ℕ) → IfSome o (λ log. Each leaves (IsLogOf log.header (payloads_of bytes))) → IsTrue (leaves image) → IfSome o (λ log. IsLogOf log.header (payloads_of bytes) image)
-each_log None leaves bytes image each left = tt
-each_log (Some log) leaves bytes image each left = each image left
 
 module _ {D : Type 0} (tells : Bool) (reads : D → ℕ → List ℕ) (leaves : D → ℕ → List ℕ → Bool) (c : ChannelState D) (files : Channel D) (number next : ℕ) (rs : List Record) (result : Result Place FilesFault)
     (on : IsOnDisk reads c) (part : IsPart rs) (stored : IsStored tells reads leaves c.files files number (chunk_for rs) next result) (told : IsTrue tells) (agrees : AgreesWithImages reads leaves c)
@@ -138,3 +135,33 @@ module _ {D : Type 0} (tells : Bool) (reads : D → ℕ → List ℕ) (leaves : 
       | inl shown ↦ inl (holds_shown reads c on image (types_kept reads c) shown types_there)
       | inr shown ↦ inr (elim tables [ inl has ↦ absurd (apart shown has) | inr has ↦ holds_part shown has ])
     ]
+
+-- ---- what the calls' clauses say
+
+pub holds_if : {D : Type 0} (reads : D → ℕ → List ℕ) (c : ChannelState D) (number next : ℕ) (rs : List Record) (o : Option (List Record)) (image : ℕ → List ℕ) → o ≡ Some rs
+    → HoldsChannel reads c image ⊎ HoldsPart reads c number next rs image → HoldsChannel reads c image ⊎ IfSome o (λ part. HoldsPart reads c number next part image)
+holds_if reads c number next rs o image is (inl holds) = inl holds
+holds_if reads c number next rs o image is (inr holds) = inr (subst (λ (o : Option (List Record)). IfSome o (λ part. HoldsPart reads c number next part image)) (sym is) holds)
+
+-- the channel still agrees with each image, where its own log does
+pub agrees_with : {D : Type 0} (reads : D → ℕ → List ℕ) (leaves : D → ℕ → List ℕ → Bool) (old new : ChannelState D) → AgreesWithImages reads leaves old → new.types ≡ old.types
+    → EachAsRead new.files.transactions (reads new.files.disk) (leaves new.files.disk) → FileStays 1 (reads old.files.disk) (reads new.files.disk) (leaves old.files.disk) (leaves new.files.disk) → AgreesWithImages reads leaves new
+agrees_with reads leaves old new agrees types files file_one = record {
+  files = files;
+  types =
+      subst (λ (o : Option LogState). IfSome o (λ log. Each (leaves new.files.disk 1) (IsLogOf log.header (payloads_of (reads new.files.disk 1))))) (sym types)
+      (subst (λ (bytes : List ℕ). IfSome old.types (λ log. Each (leaves new.files.disk 1) (IsLogOf log.header (payloads_of bytes)))) (sym file_one.reads)
+      (subst (λ (l : List ℕ → Bool). IfSome old.types (λ log. Each l (IsLogOf log.header (payloads_of (reads old.files.disk 1))))) (sym file_one.leaves) agrees.types));
+}
+
+pub for_some : {A : Type 0} (P : A → Type 0) (o : Option A) (a : A) → o ≡ Some a → P a → IfSome o P
+for_some P o a is holds = subst (λ o. IfSome o P) (sym is) holds
+
+-- after a refusal the channel stands for the same channel of the core
+pub core_refused : {D : Type 0} (tells : Bool) (reads : D → ℕ → List ℕ) (leaves : D → ℕ → List ℕ → Bool) (c : ChannelState D) (files : Channel D) (number next : ℕ) (rs : List Record) (result : Result Place FilesFault)
+    → IsOnDisk reads c → IsPart rs → IsStored tells reads leaves c.files files number (chunk_for rs) next result → IsTrue tells → AgreesWithImages reads leaves c → number ≡ last_part c + 1
+    → ((file : ℕ) → IsTrue (leaves files.disk file (reads files.disk file))) → files.transactions.inventory.state.last ≡ last_part c → files.confirmed ≡ c.files.confirmed
+    → core_of reads (record c { files = files }) ≡ core_of reads c
+core_refused tells reads leaves c files number next rs result on part stored told agrees number_is left last confirmed =
+    let table = table_same_there tells reads leaves c files number next rs result on part stored told agrees number_is (reads files.disk) left in
+    cc (table, last, confirmed)

@@ -1,6 +1,6 @@
 -- A channel after a part of a store, whatever was answered.
 use Rattle.std.proofs.Common.{◌≡◌, ◌≢◌, ◌≤◌, ◌<◌, ℕ, suc, ◌+◌, ◌-◌, ◌^◌, Bool, true, false, cond, not, if◌then◌else◌, List, [], ◌∷◌, ◌++◌, length, map, Option, Some, None, Result, Ok, Err, option_map, unwrap_or, IsTrue, IsSome, IfSome, IfErr, inl, inr, refl, sym, ap, subst, ◌∙◌, arith}
-use Rattle.std.specs.Prelude.{nat_lt, ◌==◌}
+use Rattle.std.specs.Prelude.{nat_lt, ◌==◌, IsErr, IsErrOf}
 use Rattle.std.specs.Option.{option_or}
 use Rattle.std.specs.FinMap.{get}
 use Rattle.std.proofs.lemmas.Bool.{cases_Bool, false≢true, lt-ltb, ltb-true, cond-false}
@@ -8,7 +8,6 @@ use Rattle.store_io.specs.Whole.{EachImage}
 use Rattle.gated_log.specs.Of.{IsOf}
 use Rattle.graph_model.specs.Graph.{entity_size}
 use Rattle.graph_model.specs.declared.entity.Record.{Record}
-use Rattle.tx_entry.specs.declared.entry.Entry.TheVariants.{Store}
 use Rattle.transactions_file.specs.Files.{is_live, length_in, length_of}
 use Rattle.transactions_file.specs.Inventory as inventory
 use Rattle.transactions_file.proofs.Lengths.{dead_length, length_push, live_push_same}
@@ -18,6 +17,7 @@ use Rattle.entity_form.proofs.Spellings.{length-entity_bytes}
 use Rattle.channel_files.specs.declared.fault.FilesFault.{FilesFault}
 use Rattle.channel_files.specs.declared.fault.FilesFault.TheVariants.{Fault, Full}
 use Rattle.channel_files.specs.declared.place.Place.{Place}
+use Rattle.channel_files.specs.declared.sizes.Sizes.{Sizes}
 use Rattle.channel_files.specs.Channel.{Channel, IsInRange, IsOfDisk}
 use Rattle.channel_files.specs.Faults.{IsFaultOrFull, UnlessFault}
 use Rattle.channel_files.specs.Chunks.{content_of}
@@ -189,3 +189,47 @@ module _ {D : Type 0} (tells : Bool) (reads : D → ℕ → List ℕ) (leaves : 
 
     pub sound_full : (n : ℕ) → fault ≡ Full n → (failed ≡ false → c.failed ≡ false) → IsSound tells reads with_part_refused
     sound_full n full still = sound_refused_part (λ told sound. refused_on_disk n full told (still sound))
+
+-- ROOM AFTER A REFUSAL
+
+wrong_fault : {A : Type 0} (n : ℕ) → Full n ≡ Fault → A
+wrong_fault n is = absurd cc
+
+-- after `Full` there is room for a file where a part still needs one: nothing changed, or the head is new
+module _ {D : Type 0} (tells : Bool) (reads : D → ℕ → List ℕ) (leaves : D → ℕ → List ℕ → Bool) (old new : Channel D) (number next n : ℕ) (chunk : List ℕ)
+    (stored : IsStored tells reads leaves old new number chunk next (Err (Full n))) (sizes : new.sizes ≡ old.sizes) (sound : inventory.IsSound old.transactions.inventory.state) (low : 1 ≤ old.sizes.maximum)
+    (room : lacks_room old.transactions.inventory.state old.sizes.maximum ≡ true → 1 ≤ old.transactions.inventory.spare) where
+  abbrev Roomy : Channel D → Type 0
+  Roomy files = lacks_room files.transactions.inventory.state files.sizes.maximum ≡ true → 1 ≤ files.transactions.inventory.spare
+
+  abbrev first : Option ℕ
+  first = full_at_first old.transactions.inventory.state old.transactions.log.length old.sizes.maximum number (length chunk)
+
+  abbrev behind : Option ℕ
+  behind = full_behind_creation old.transactions.inventory.state old.transactions.log.length old.sizes.maximum (length chunk)
+
+  abbrev answer : Result Place FilesFault
+  answer = Err (Full n)
+
+  room_unchanged : new ≡ old → Roomy new
+  room_unchanged is = subst Roomy (sym is) room
+
+  room_with_head : new.transactions.inventory.state ≡ with_new_head old.transactions.inventory.state → Roomy new
+  room_with_head is lacks =
+      let has : lacks_room new.transactions.inventory.state new.sizes.maximum ≡ false =
+      ap (λ (s : inventory.State). lacks_room s new.sizes.maximum) is ∙ ap (λ (z : Sizes). lacks_room (with_new_head old.transactions.inventory.state) z.maximum) sizes
+      ∙ new_head_has_room old.transactions.inventory.state old.sizes.maximum sound low in
+      absurd (false≢true (sym has ∙ lacks))
+
+  room_behind : (o : Option ℕ) → behind ≡ o → first ≡ None → Roomy new
+  room_behind None is none = wrong_fault n (stored.not_full none is)
+  room_behind (Some m) is none =
+      let full = subst (λ (o : Option ℕ). IfSome o (λ k. IsErr answer × IfErr answer (IsFaultOrFull (λ m. (m ≡ k) × (new.transactions.inventory.state ≡ with_new_head old.transactions.inventory.state))))) is (stored.full_behind none) in
+      room_with_head full.1.1
+
+  room_at_first : (o : Option ℕ) → first ≡ o → Roomy new
+  room_at_first None is = room_behind behind refl is
+  room_at_first (Some m) is = room_unchanged (subst (λ (o : Option ℕ). IfSome o (λ k. IsErrOf answer (Full k) × (new ≡ old))) is stored.full).1
+
+  pub room_full : Roomy new
+  room_full = room_at_first first refl

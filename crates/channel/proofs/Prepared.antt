@@ -1,5 +1,5 @@
 -- A channel with another part prepared, with more room for files, and with its last part confirmed.
-use Rattle.std.proofs.Common.{◌≡◌, ◌≢◌, ◌≤◌, ℕ, Bool, true, false, List, length, Option, Some, None, IsTrue, IsSome, IfSome, refl, sym, ap, subst, ◌∙◌}
+use Rattle.std.proofs.Common.{◌≡◌, ◌≢◌, ◌≤◌, ℕ, Bool, true, false, List, length, Option, Some, None, IsTrue, IsSome, IfSome, refl, sym, ap, subst, ◌∙◌, arith}
 use Rattle.std.proofs.lemmas.Bool.{false≢true}
 use Rattle.gated_log.specs.State.{LogState}
 use Rattle.gated_log.specs.Log.{IsLogOf, payloads_of}
@@ -18,6 +18,7 @@ use Rattle.channel.specs.Core.{last_part}
 use Rattle.channel.specs.OnDisk.{AgreesWithImages, IsOnDisk}
 use Rattle.channel.specs.Sound.{HasRoom, IsSound}
 use Rattle.channel.proofs.OnDisks.{KeepsRows, on_disk_still}
+
 
 -- the log and the inventory are the same, and there may be room for more files
 pub record SameLog (old new : Transactions) : Type 0 where
@@ -126,3 +127,25 @@ module _ {D : Type 0} (tells : Bool) (reads : D → ℕ → List ℕ) (c : Chann
 
   pub room_confirmed : (spare : ℕ) → HasRoom c spare → HasRoom with_confirmed spare
   room_confirmed spare room = record { rows = room.rows; files = room.files }
+
+-- ROOM
+
+fits_more : (o : Option (List Record)) (spare more : ℕ) → spare ≤ more → IfSome o (λ part. length part ≤ spare) → IfSome o (λ part. length part ≤ more)
+fits_more None spare more le fits = tt
+fits_more (Some part) spare more le fits = omega (arith, fits, le)
+
+module _ {D : Type 0} (c : ChannelState D) (files : Channel D) (same : SameButSpare c.files files) where
+  -- more room serves what is prepared
+  pub room_still : (spare more : ℕ) → spare ≤ more → c.files.transactions.inventory.spare ≤ files.transactions.inventory.spare → HasRoom c spare → HasRoom (record c { files = files }) more
+  room_still spare more rows_more files_more room = record {
+    rows = fits_more c.prepared spare more rows_more room.rows;
+    files = λ ready unfailed lacks.
+        let lacked : lacks_room c.files.transactions.inventory.state c.files.sizes.maximum ≡ true =
+        ap (λ (s : State). lacks_room s c.files.sizes.maximum) (sym same.state) ∙ ap (λ (z : Sizes). lacks_room files.transactions.inventory.state z.maximum) (sym same.sizes) ∙ lacks in
+        let one = room.files ready unfailed lacked in
+        omega (arith, one, files_more);
+  }
+
+  -- room for a part that is prepared now
+  pub room_new : (part : List Record) (spare : ℕ) → length part ≤ spare → 2 ≤ files.transactions.inventory.spare → HasRoom (record c { files = files; prepared = Some part }) spare
+  room_new part spare fits two = record { rows = fits; files = λ ready unfailed lacks. omega (arith, two) }

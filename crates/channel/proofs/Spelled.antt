@@ -1,5 +1,5 @@
 -- The entity that bytes spell is the one that they were written for, and the other way round.
-use Rattle.std.proofs.Common.{◌≡◌, ◌≤◌, ◌<◌, ◌+◌, ◌*◌, ◌^◌, ℕ, zero, suc, List, [], ◌∷◌, ◌++◌, length, map, take, drop, nat_le, Option, Some, None, unwrap_or, refl, sym, ap, ◌∙◌, append_assoc, arith, length-append, length-drop}
+use Rattle.std.proofs.Common.{◌≡◌, ◌≤◌, ◌<◌, ◌+◌, ◌*◌, ◌^◌, ℕ, zero, suc, List, [], ◌∷◌, ◌++◌, length, map, drop, nat_le, Option, Some, None, unwrap_or, refl, sym, ap, ◌∙◌, append_assoc, arith, length-append, length-drop}
 use Rattle.std.specs.List.{AllByRecursion}
 use Rattle.std.proofs.lemmas.Bool.{cond-true, le-leb}
 use Rattle.std.proofs.lemmas.Grind.{flat_map-append}
@@ -12,7 +12,7 @@ use Rattle.graph_model.specs.Graph.{entity_size}
 use Rattle.graph_model.specs.declared.entity.Entity.{Entity}
 use Rattle.graph_model.specs.declared.entity.Record.{Record}
 use Rattle.entity_form.specs.declared.places.Header.{Header}
-use Rattle.entity_form.specs.Spelling.{IsEntity, IsHeaderOf, entity_bytes, numbers_bytes, numbers_of}
+use Rattle.entity_form.specs.Spelling.{IsHeaderOf, entity_bytes, numbers_bytes}
 use Rattle.entity_form.proofs.Spellings.{BeginsWithHeader, entity_read, length-entity_bytes, length-numbers_bytes}
 use Rattle.channel_files.specs.Whole.{header_of}
 use Rattle.channel_files.proofs.NumbersInFront.{number_there}

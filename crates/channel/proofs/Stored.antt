@@ -122,12 +122,12 @@ module _ (old new : ℕ → List ℕ) (last number : ℕ) (place : Place) (rs : 
       if_some None each = tt
       if_some (Some row) each = each row refl
 
-      listed : (id : ℕ) (o : Option Spot) → spot id ≡ o → has id (ids rs) ≡ is_some o
-      listed id o is = has_ids rs id ∙ ap (λ (o : Option Entity). is_some o) (entity_of_spot place.at rs id ∙ ap (λ (o : Option Spot). option_map (λ (s : Spot). s.of.entity) o) is) ∙ mapped o
-
       mapped : (o : Option Spot) → is_some (option_map (λ (s : Spot). s.of.entity) o) ≡ is_some o
       mapped None = refl
       mapped (Some s) = refl
+
+      listed : (id : ℕ) (o : Option Spot) → spot id ≡ o → has id (ids rs) ≡ is_some o
+      listed id o is = has_ids rs id ∙ ap (λ (o : Option Entity). is_some o) (entity_of_spot place.at rs id ∙ ap (λ (o : Option Spot). option_map (λ (s : Spot). s.of.entity) o) is) ∙ mapped o
 
   -- the table has the part's records over those of before
   pub table_stored : table_in new new_rows ≡ put_all rs (table_in old rows)

@@ -1,5 +1,5 @@
 //! What a channel's table is filled with when it is opened.
-ghost use Rattle.std.specs.Prelude.{◌≡◌, ◌≤◌, true, false, None, Some, IsTrue, OnOk, OnErr, IfErr, IfSome, IsErrOf};
+ghost use Rattle.std.specs.Prelude.{◌≡◌, ◌≤◌, true, false, length, None, Some, IsTrue, OnOk, OnErr, IfErr, IfSome, IsErrOf};
 ghost use Rattle.std.specs.FinMap as finite;
 ghost use Rattle.store_io.specs.Disk.{Rose};
 ghost use Rattle.entity_form.specs.Spelling.{IsHeaderOf};
@@ -13,6 +13,7 @@ ghost use Rattle.channel.specs.Rows.{opened_row};
 
 use crate::channel::Channel;
 use crate::fault::{ChannelFault, note};
+use crate::part::Part;
 use channel_files::FilesFault;
 use entity_form::Header;
 use entity_index::{Row, State};
@@ -37,6 +38,16 @@ fn opened_at(file: u64, at: u64, header: Header) -> Row
     }
 }
 
+/// How many records are ready to be stored.
+fn ready(prepared: &Option<Part>) -> u64
+    ensures { IfSome prepared.now (λ part. result ≡ length part) }
+{
+    match prepared {
+        Some(part) => part.len() as u64,
+        None => 0,
+    }
+}
+
 impl<D: Disk> Channel<D> {
     /// The table gains the entity of this header, which is the last one of its id there and stands at this place of a live file.
     /// Without memory nothing changes.
@@ -51,10 +62,7 @@ impl<D: Disk> Channel<D> {
         ensures ok { OnOk result (self.new ≡ record self.old { rows = finite.insert self.old.rows id (opened_row file at header) }) }
         ensures err { OnErr result (self.new ≡ self.old) }
     {
-        let due = match &self.prepared {
-            Some(part) => part.len() as u64 + 1,
-            None => 1,
-        };
+        let due = ready(&self.prepared).checked_add(1).ok_or(NoMemory)?;
         if self.index.reserve(due).is_err() {
             return Err(NoMemory);
         }

@@ -1,5 +1,5 @@
 //! A channel's part of a store: made ready, stored and confirmed.
-ghost use Rattle.std.specs.Prelude.{◌≡◌, ◌≢◌, ◌≤◌, ◌<◌, ◌+◌, ◌^◌, ◌⊎◌, true, false, None, Some, ℕ, IsTrue, IsErr, IsSome, IfSome, IfErr, IfOk, OnOk, OnErr, IsErrOf, length};
+ghost use Rattle.std.specs.Prelude.{◌≡◌, ◌≤◌, ◌+◌, ◌^◌, ◌⊎◌, true, false, None, Some, List, IsTrue, IsErr, IsSome, IfSome, IfErr, IfOk, OnOk, OnErr, IsErrOf, length};
 ghost use Rattle.std.specs.List.{AllByRecursion};
 ghost use Rattle.store_io.specs.Disk.{Rose};
 ghost use Rattle.store_io.specs.Whole.{EachImage};
@@ -117,6 +117,8 @@ impl<D: Disk> Channel<D> {
         if self.failed {
             return Err(note(&mut self.ending, &mut self.failed, ChannelFault::Fault));
         }
+        // The inventory is sound once its files are read.
+        let _files = self.files.inventory().files();
         let Some(part) = &self.prepared else {
             unreachable!()
         };

@@ -1,4 +1,4 @@
-use Rattle.std.proofs.Common.{◌≡◌, ℕ, ◌+◌, ◌<◌, ◌≤◌, ◌^◌, true, List, [], ◌∷◌, ◌++◌, length, map, take, drop, get_or, set, Option, refl, ap, sym, subst, ◌∙◌, arith, append_assoc, length-take, Bool, false, if◌then◌else◌, None}
+use Rattle.std.proofs.Common.{◌≡◌, ℕ, ◌+◌, ◌<◌, ◌≤◌, true, List, [], ◌∷◌, ◌++◌, length, map, take, drop, get_or, set, Option, refl, ap, sym, subst, ◌∙◌, arith, append_assoc, length-take, Bool, false, if◌then◌else◌, None}
 use Rattle.std.specs.Prelude.{nat_lt, sum_by}
 use Rattle.std.specs.List.{AllByRecursion}
 use Rattle.std.specs.Ordering.{nat_cmp}
@@ -20,10 +20,12 @@ abbrev IsSame : FinMap nat_cmp Row → FinMap nat_cmp Row → Slot → Type 0
 IsSame was now s = get now s.header.id ≡ get was s.header.id
 
 -- a lower id's new row leaves those of the others
-others_same : (was now : FinMap nat_cmp Row) (id : ℕ) (row : Row) (slots : List Slot) → rises_from id (map id_of slots) ≡ true → AllByRecursion (IsSame was now) slots → AllByRecursion (IsSame was (insert now id row)) slots
+others_same : (was now : FinMap nat_cmp Row) (id : ℕ) (row : Row) (slots : List Slot) → rises_from id (map id_of slots) ≡ true → AllByRecursion (IsSame was now) slots
+    → AllByRecursion (IsSame was (insert now id row)) slots
 others_same was now id row slots rise same = from id slots (omega arith) rise same
   where
-    from : (low : ℕ) (slots : List Slot) → id ≤ low → rises_from low (map id_of slots) ≡ true → AllByRecursion (IsSame was now) slots → AllByRecursion (IsSame was (insert now id row)) slots
+    from : (low : ℕ) (slots : List Slot) → id ≤ low → rises_from low (map id_of slots) ≡ true → AllByRecursion (IsSame was now) slots
+        → AllByRecursion (IsSame was (insert now id row)) slots
     from low [] le rise same = tt
     from low (s ∷ slots) le rise same =
         let t = and_parts (nat_lt low s.header.id) (rises_from s.header.id (map id_of slots)) rise in
@@ -67,7 +69,8 @@ module _ (old : List Slot) (was : FinMap nat_cmp Row) (file start i : ℕ) (slot
         }
 
 -- what stands at a place behind the slots that have their rows
-read_behind : (old : List Slot) (was : FinMap nat_cmp Row) (i : ℕ) (slots : List Slot) (d : Slot) → i < length old → slots ≡ map (with_before was) (take i old) ++ drop i old → get_or slots i d ≡ get_or old i d
+read_behind : (old : List Slot) (was : FinMap nat_cmp Row) (i : ℕ) (slots : List Slot) (d : Slot) → i < length old → slots ≡ map (with_before was) (take i old) ++ drop i old
+    → get_or slots i d ≡ get_or old i d
 read_behind old was i slots d within slots_are =
     let front = map (with_before was) (take i old) in
     let long : length front ≡ i = length-map (take i old) (with_before was) ∙ omega (arith, length-take i old, within) in
@@ -81,7 +84,8 @@ record IsNext (slots : List Slot) (i file at : ℕ) (now : FinMap nat_cmp Row) (
   pub row_is : row ≡ row_at file at s.header
   pub new_is : new ≡ insert now s.header.id row
 
-put_by_calls : (old : List Slot) (was : FinMap nat_cmp Row) (file start i : ℕ) (slots : List Slot) (now : FinMap nat_cmp Row) (at : ℕ) (d s : Slot) (before : Option Row) (row : Row) (new : FinMap nat_cmp Row)
+put_by_calls : (old : List Slot) (was : FinMap nat_cmp Row) (file start i : ℕ) (slots : List Slot) (now : FinMap nat_cmp Row) (at : ℕ)
+    (d s : Slot) (before : Option Row) (row : Row) (new : FinMap nat_cmp Row)
     → i < length old → ArePut old was file start i slots now at → IsNext slots i file at now d s before row new
     → ArePut old was file start (i + 1) (set slots i (record { header = s.header; before = before })) new (at + s.header.length)
 put_by_calls old was file start i slots now at d s before row new within put next =
@@ -105,7 +109,7 @@ loop-slot-preserved c =
     let next : IsNext l.slots l.slot-index c.args.place.file l.at l.index.contents none s c.copied-slot.result c.stored_at.result c.put.new.self.contents =
     record { item = refl; before_is = c.copied-slot.ensures ∙ c.row.ensures; row_is = c.stored_at.ensures; new_is = c.put.ensures.rows } in
     record {
-      put = put_by_calls c.args.slots.now c.args.index.now.contents c.args.place.file c.args.place.at l.slot-index l.slots l.index.contents l.at none s c.copied-slot.result c.stored_at.result c.put.new.self.contents
-          within l.invariant.put next;
+      put = put_by_calls c.args.slots.now c.args.index.now.contents c.args.place.file c.args.place.at l.slot-index l.slots l.index.contents l.at
+          none s c.copied-slot.result c.stored_at.result c.put.new.self.contents within l.invariant.put next;
       room = omega (arith, less_room c.put.new.self.spare l.index.spare _ c.put.ensures.spare, l.invariant.room);
     }

@@ -1,4 +1,4 @@
-use Rattle.std.proofs.Common.{◌≡◌, ◌≤◌, ℕ, true, List, length, map, sym, subst, arith}
+use Rattle.std.proofs.Common.{◌≡◌, ◌≤◌, ℕ, true, List, map, sym, subst, arith}
 use Rattle.std.specs.List.{AllByRecursion}
 use Rattle.graph_model.specs.Ids.{rises}
 use Rattle.graph_model.specs.Graph.{ids}

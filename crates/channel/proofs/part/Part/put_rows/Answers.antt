@@ -14,7 +14,7 @@ use Rattle.entity_form.specs.declared.places.Header.{Header}
 use Rattle.entity_index.specs.declared.row.Row.{Row}
 use Rattle.channel.specs.Entities.{header_for}
 use Rattle.channel.specs.Parts.{headers_in, records_in}
-use Rattle.channel.specs.Taking.{rows_behind, with_before, slot_for}
+use Rattle.channel.specs.Taking.{with_before, slot_for}
 use Rattle.channel.specs.declared.part.Slot.{Slot}
 use Rattle.channel.proofs.Chunks.{chunk_length}
 use Rattle.channel.proofs.part.Part.put_rows.Goals as goal

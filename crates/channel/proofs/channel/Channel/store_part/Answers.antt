@@ -1,0 +1,181 @@
+-- The part is stored, or refused with all of it ready.
+use Rattle.std.proofs.Common.{◌≡◌, ◌≤◌, ◌<◌, ◌+◌, ◌^◌, ℕ, true, false, List, length, Option, Some, None, Ok, Err, IsTrue, IfSome, refl, sym, ap, subst, ◌∙◌, rules}
+use Rattle.std.proofs.lemmas.Bool.{false≢true}
+use Rattle.graph_model.specs.declared.entity.Record.{Record}
+use Rattle.transactions_file.specs.Inventory.{IsSound as IsSoundInventory}
+use Rattle.channel_files.specs.declared.fault.FilesFault.{FilesFault}
+use Rattle.channel_files.specs.declared.fault.FilesFault.TheVariants as files
+use Rattle.channel_files.specs.declared.place.Place.{Place}
+use Rattle.channel_files.specs.Outcomes.{IsStored}
+use Rattle.channel.specs.Core.{core_of, last_part, place_with}
+use Rattle.channel.specs.Entities.{chunk_for}
+use Rattle.channel.specs.Parts.{IsPart}
+use Rattle.channel.specs.State.{ChannelState}
+use Rattle.channel.proofs.Events.{MayTake, part_event}
+use Rattle.channel.proofs.Sounds.{sound_refused, room_refused}
+use Rattle.channel.proofs.Prepared.{room_for_nothing}
+use Rattle.channel.proofs.Parted.{core_stored, place_low, room_full, sound_full, sound_refused_part, sound_stored}
+use Rattle.channel.proofs.PartImages.{agrees_with, core_refused, for_some, holds_either, holds_if}
+use Rattle.channel.proofs.channel.Channel.store_part.Goals as goal
+
+-- ---- the channel still holds what it held
+
+pub invariant_of-self : goal.invariant_of-self
+invariant_of-self g c =
+    let still = λ (e : c.note.new.failed ≡ false). absurd (false≢true (sym e ∙ c.note.ensures.failed)) in
+    (sound_refused _ _ _ c.note.new.ending c.note.new.failed c.self.invariant.0 still, room_refused _ c.note.new.ending c.note.new.failed _ c.self.invariant.1 still, c.self.invariant.2)
+
+pub invariant_of-self-in-Ok : goal.invariant_of-self-in-Ok
+invariant_of-self-in-Ok g c =
+    let rs = c.in-Some-take.part in
+    let files = c.store_chunk.new.self in
+    let bytes : c.chunk.result.now ≡ chunk_for rs = search rules in
+    let part : IsPart rs = search rules in
+    let stored = subst (λ (b : List ℕ). IsStored g.D.Disk.tells g.D.Disk.reads g.D.Disk.leaves c.self.inside.files files c.args.number b c.args.next_id (Ok c.in-Ok.place)) bytes c.in-Ok.ensures.stored in
+    let place_live = λ (some : 0 < length (chunk_for rs)). c.in-Ok.ensures.place_live (subst (λ (b : List ℕ). 0 < length b) (sym bytes) some) in (
+      rw (c.put_rows.ensures.rows, c.put_rows.ensures.slots, c.take.ensures.after)
+          (sound_stored g.D.Disk.tells g.D.Disk.reads g.D.Disk.leaves _ files c.args.number c.args.next_id rs c.self.invariant.0 c.store_chunk.ensures.sizes c.store_chunk.ensures.unconfirmed c.store_chunk.ensures.live
+          c.store_chunk.ensures.types c.in-Ok.place part stored c.in-Ok.ensures.whole_chunks place_live),
+      room_for_nothing _ _ c.take.ensures.after,
+      c.self.invariant.2,
+    )
+
+pub invariant_of-self-in-Err-Full : goal.invariant_of-self-in-Err-Full
+invariant_of-self-in-Err-Full g c =
+    let rs = c.in-Some.part in
+    let files = c.store_chunk.new.self in
+    let fault = c.in-Err-Full.field-0 in
+    let new = c.note-in-Err-Full.new in
+    let ensures = c.in-Err-Full.ensures in
+    let sound : IsSoundInventory c.self.inside.files.transactions.inventory.state = search rules in
+    let stored = subst (λ (b : List ℕ). IsStored g.D.Disk.tells g.D.Disk.reads g.D.Disk.leaves c.self.inside.files files c.args.number b c.args.next_id (Err fault)) c.chunk.ensures.bytes ensures.stored in
+    let full = subst (λ (f : FilesFault). IsStored g.D.Disk.tells g.D.Disk.reads g.D.Disk.leaves c.self.inside.files files c.args.number (chunk_for rs) c.args.next_id (Err f)) c.in-Err-Full.field-0-is stored in (
+      sound_full g.D.Disk.tells g.D.Disk.reads g.D.Disk.leaves _ files c.args.number c.args.next_id rs c.self.invariant.0 c.store_chunk.ensures.sizes c.store_chunk.ensures.unconfirmed c.store_chunk.ensures.live
+          c.store_chunk.ensures.types fault stored new.ending new.failed _ ensures.whole_chunks ensures.numbers.0 c.in-Err-Full.full c.in-Err-Full.field-0-is (λ e. c.if-self.false),
+      record {
+        rows = c.self.invariant.1.rows;
+        files = λ ready unfailed.
+            room_full g.D.Disk.tells g.D.Disk.reads g.D.Disk.leaves c.self.inside.files files c.args.number c.args.next_id c.in-Err-Full.full (chunk_for rs) full c.store_chunk.ensures.sizes sound
+            c.self.invariant.0.sizes.some (c.self.invariant.1.files ready c.if-self.false);
+      },
+      c.self.invariant.2,
+    )
+
+pub invariant_of-self-in-Err-Fault : goal.invariant_of-self-in-Err-Fault
+invariant_of-self-in-Err-Fault g c =
+    let rs = c.in-Some.part in
+    let files = c.store_chunk.new.self in
+    let fault = c.in-Err-Fault.field-0 in
+    let new = c.note-in-Err-Fault.new in
+    let ensures = c.in-Err-Fault.ensures in
+    let fails = λ (e : new.failed ≡ false). false≢true (sym e ∙ c.note-in-Err-Fault.ensures.failed) in
+    let stored = subst (λ (b : List ℕ). IsStored g.D.Disk.tells g.D.Disk.reads g.D.Disk.leaves c.self.inside.files files c.args.number b c.args.next_id (Err fault)) c.chunk.ensures.bytes ensures.stored in (
+      sound_refused_part g.D.Disk.tells g.D.Disk.reads g.D.Disk.leaves _ files c.args.number c.args.next_id rs c.self.invariant.0 c.store_chunk.ensures.sizes c.store_chunk.ensures.unconfirmed c.store_chunk.ensures.live
+          c.store_chunk.ensures.types fault stored new.ending new.failed _ ensures.whole_chunks ensures.numbers.0 (λ told e. absurd (fails e)),
+      record { rows = c.self.invariant.1.rows; files = λ ready e. absurd (fails e) },
+      c.self.invariant.2,
+    )
+
+pub put_rows-requires-clause-low : goal.put_rows-requires-clause-low
+put_rows-requires-clause-low g c =
+    let sound : IsSoundInventory c.self.inside.files.transactions.inventory.state = search rules in
+    subst (λ (p : Place). p.at ≤ 2 ^ 30) (sym c.in-Ok.ensures.stored.place)
+    (place_low c.self.inside.files.transactions.inventory.state c.self.inside.files.sizes.maximum (length c.chunk.result.now) sound c.self.invariant.0.sizes.most)
+
+-- ---- the event
+
+pub returns-in-Some-take-clause-event : goal.returns-in-Some-take-clause-event
+returns-in-Some-take-clause-event g c =
+    let rs = c.in-Some-take.part in
+    let files = c.store_chunk.new.self in
+    let now = c.args.self.now in
+    let bytes : c.chunk.result.now ≡ chunk_for rs = search rules in
+    let part : IsPart rs = search rules in
+    let is : c.self.inside.prepared ≡ Some rs = search rules in
+    let is_now : now.prepared ≡ Some rs = sym (ap (λ (s : ChannelState g.row.D.Denot). s.prepared) c.self.view_is) ∙ is in
+    let stored = subst (λ (b : List ℕ). IsStored g.D.Disk.tells g.D.Disk.reads g.D.Disk.leaves c.self.inside.files files c.args.number b c.args.next_id (Ok c.in-Ok.place)) bytes c.in-Ok.ensures.stored in
+    let place_live = λ (some : 0 < length (chunk_for rs)). c.in-Ok.ensures.place_live (subst (λ (b : List ℕ). 0 < length b) (sym bytes) some) in
+    let may_now : MayTake (place_with now rs) (core_of g.D.Disk.reads now) c.args.hand.now c.args.number = record {
+      idle = refl;
+      number_is = c.requires.open;
+      in_store = c.requires.in_store;
+      not_yet = c.requires.not_yet;
+      next = c.requires.number;
+      confirmed = c.requires.confirmed;
+      credit = subst (λ (o : Option (List Record)). IfSome o (λ part. length part ≤ c.args.hand.now.credit)) is_now c.requires.credit;
+    } in
+    let may = subst (λ (s : ChannelState g.row.D.Denot). MayTake (place_with s rs) (core_of g.D.Disk.reads s) c.args.hand.now c.args.number) (sym c.self.view_is) may_now in
+    rw (← c.self.view_is) (λ told.
+    for_some _ _ rs is
+    (part_event _ _ c.args.hand.now c.args.number may _ _
+    (rw c.put_rows.ensures.rows
+    (core_stored g.D.Disk.tells g.D.Disk.reads g.D.Disk.leaves _ files c.args.number c.args.next_id rs c.self.invariant.0 c.store_chunk.ensures.sizes c.store_chunk.ensures.unconfirmed c.store_chunk.ensures.live
+    c.store_chunk.ensures.types c.in-Ok.place part stored c.in-Ok.ensures.whole_chunks place_live told c.if-self.false))
+    c.give_part.ensures))
+
+-- ---- images
+
+pub returns-in-Some-take-clause-stop : goal.returns-in-Some-take-clause-stop
+returns-in-Some-take-clause-stop g c =
+    let rs = c.in-Some.part in
+    let is : c.self.inside.prepared ≡ Some rs = search rules in
+    let next = subst (λ (s : ChannelState g.row.D.Denot). c.args.number ≡ last_part s + 1) (sym c.self.view_is) c.requires.number in
+    let stored = subst (λ (b : List ℕ). IsStored g.D.Disk.tells g.D.Disk.reads g.D.Disk.leaves c.self.inside.files c.store_chunk.new.self c.args.number b c.args.next_id c.store_chunk.result) c.chunk.ensures.bytes c.store_chunk.ensures.stored in
+    rw (← c.self.view_is) (λ told unfailed agrees image left.
+    holds_if g.D.Disk.reads _ c.args.number c.args.next_id rs _ image is
+    (holds_either g.D.Disk.tells g.D.Disk.reads g.D.Disk.leaves _ c.store_chunk.new.self c.args.number c.args.next_id rs c.store_chunk.result (c.self.invariant.0.on_disk told c.if-self.false) c.chunk.ensures.part stored told agrees
+    next image left (c.store_chunk.ensures.types told)))
+
+pub returns-in-Err-Full-clause-stop : goal.returns-in-Err-Full-clause-stop
+returns-in-Err-Full-clause-stop g c =
+    let rs = c.in-Some.part in
+    let is : c.self.inside.prepared ≡ Some rs = search rules in
+    let next = subst (λ (s : ChannelState g.row.D.Denot). c.args.number ≡ last_part s + 1) (sym c.self.view_is) c.requires.number in
+    let stored = subst (λ (b : List ℕ). IsStored g.D.Disk.tells g.D.Disk.reads g.D.Disk.leaves c.self.inside.files c.store_chunk.new.self c.args.number b c.args.next_id c.store_chunk.result) c.chunk.ensures.bytes c.store_chunk.ensures.stored in
+    rw (← c.self.view_is) (λ told unfailed agrees image left.
+    holds_if g.D.Disk.reads _ c.args.number c.args.next_id rs _ image is
+    (holds_either g.D.Disk.tells g.D.Disk.reads g.D.Disk.leaves _ c.store_chunk.new.self c.args.number c.args.next_id rs c.store_chunk.result (c.self.invariant.0.on_disk told c.if-self.false) c.chunk.ensures.part stored told agrees
+    next image left (c.store_chunk.ensures.types told)))
+
+pub returns-in-Err-Fault-clause-stop : goal.returns-in-Err-Fault-clause-stop
+returns-in-Err-Fault-clause-stop g c =
+    let rs = c.in-Some.part in
+    let is : c.self.inside.prepared ≡ Some rs = search rules in
+    let next = subst (λ (s : ChannelState g.row.D.Denot). c.args.number ≡ last_part s + 1) (sym c.self.view_is) c.requires.number in
+    let stored = subst (λ (b : List ℕ). IsStored g.D.Disk.tells g.D.Disk.reads g.D.Disk.leaves c.self.inside.files c.store_chunk.new.self c.args.number b c.args.next_id c.store_chunk.result) c.chunk.ensures.bytes c.store_chunk.ensures.stored in
+    rw (← c.self.view_is) (λ told unfailed agrees image left.
+    holds_if g.D.Disk.reads _ c.args.number c.args.next_id rs _ image is
+    (holds_either g.D.Disk.tells g.D.Disk.reads g.D.Disk.leaves _ c.store_chunk.new.self c.args.number c.args.next_id rs c.store_chunk.result (c.self.invariant.0.on_disk told c.if-self.false) c.chunk.ensures.part stored told agrees
+    next image left (c.store_chunk.ensures.types told)))
+
+pub returns-in-Some-take-clause-images : goal.returns-in-Some-take-clause-images
+returns-in-Some-take-clause-images g c =
+    rw (← c.self.view_is) (λ told agrees. agrees_with g.D.Disk.reads g.D.Disk.leaves _ _ agrees refl (c.in-Ok.ensures.stored.as_read told agrees.files) (c.store_chunk.ensures.types told))
+
+pub returns-in-Err-Full-clause-images : goal.returns-in-Err-Full-clause-images
+returns-in-Err-Full-clause-images g c =
+    let full = subst (λ (f : FilesFault). IsStored g.D.Disk.tells g.D.Disk.reads g.D.Disk.leaves c.self.inside.files c.store_chunk.new.self c.args.number c.chunk.result.now c.args.next_id (Err f)) c.in-Err-Full.field-0-is
+    c.in-Err-Full.ensures.stored in
+    rw (← c.self.view_is, c.note-in-Err-Full.ensures.same) (λ told agrees. agrees_with g.D.Disk.reads g.D.Disk.leaves _ _ agrees refl (full.as_read told agrees.files) (c.store_chunk.ensures.types told))
+
+-- ---- a refusal is no event
+
+pub returns-in-Err-Full-clause-no_event : goal.returns-in-Err-Full-clause-no_event
+returns-in-Err-Full-clause-no_event g c =
+    let rs = c.in-Some.part in
+    let files = c.store_chunk.new.self in
+    let next = subst (λ (s : ChannelState g.row.D.Denot). c.args.number ≡ last_part s + 1) (sym c.self.view_is) c.requires.number in
+    let stored = subst (λ (b : List ℕ). IsStored g.D.Disk.tells g.D.Disk.reads g.D.Disk.leaves c.self.inside.files files c.args.number b c.args.next_id c.store_chunk.result) c.chunk.ensures.bytes c.store_chunk.ensures.stored in
+    rw (← c.self.view_is) (λ told agrees.
+    core_refused g.D.Disk.tells g.D.Disk.reads g.D.Disk.leaves _ files c.args.number c.args.next_id rs c.store_chunk.result (c.self.invariant.0.on_disk told c.if-self.false) c.chunk.ensures.part stored told agrees next
+    (λ f. g.met.D.Disk.reads_left files.disk f told) c.in-Err-Full.ensures.numbers.0 c.store_chunk.ensures.unconfirmed)
+
+pub returns-in-Err-Fault-clause-no_event : goal.returns-in-Err-Fault-clause-no_event
+returns-in-Err-Fault-clause-no_event g c =
+    let rs = c.in-Some.part in
+    let files = c.store_chunk.new.self in
+    let next = subst (λ (s : ChannelState g.row.D.Denot). c.args.number ≡ last_part s + 1) (sym c.self.view_is) c.requires.number in
+    let stored = subst (λ (b : List ℕ). IsStored g.D.Disk.tells g.D.Disk.reads g.D.Disk.leaves c.self.inside.files files c.args.number b c.args.next_id c.store_chunk.result) c.chunk.ensures.bytes c.store_chunk.ensures.stored in
+    rw (← c.self.view_is) (λ told agrees.
+    core_refused g.D.Disk.tells g.D.Disk.reads g.D.Disk.leaves _ files c.args.number c.args.next_id rs c.store_chunk.result (c.self.invariant.0.on_disk told c.if-self.false) c.chunk.ensures.part stored told agrees next
+    (λ f. g.met.D.Disk.reads_left files.disk f told) c.in-Err-Fault.ensures.numbers.0 c.store_chunk.ensures.unconfirmed)
