@@ -8,6 +8,7 @@ pub mod OnDisks
 pub mod Sounds
 pub mod Lookups
 pub mod FoundRows
+pub mod RowStates
 pub mod Stored
 pub mod Prepared
 pub mod Parted

@@ -1,5 +1,5 @@
 -- Where the records of a part stand, and the rows that they get.
-use Rattle.std.proofs.Common.{◌≡◌, ◌≤◌, ◌<◌, ℕ, ◌+◌, Bool, true, false, cond, ◌||◌, List, [], ◌∷◌, map, Option, Some, None, option_map, ◌⊎◌, inl, inr, refl, sym, ap, subst, ◌∙◌, arith}
+use Rattle.std.proofs.Common.{◌≡◌, ◌≤◌, ℕ, ◌+◌, true, false, cond, ◌||◌, List, [], ◌∷◌, map, Option, Some, None, option_map, ◌⊎◌, inl, inr, refl, sym, ap, ◌∙◌, arith}
 use Rattle.std.specs.Prelude.{nat_eq, nat_lt, is_some}
 use Rattle.std.specs.Option.{option_or, option_map_or}
 use Rattle.std.specs.Ordering.{nat_cmp}
@@ -36,7 +36,8 @@ spot_row file s = row_at file s.at (header_for s.of)
 pub entity_of_spot : (at : ℕ) (rs : List Record) (x : ℕ) → entity_of rs x ≡ option_map (λ (s : Spot). s.of.entity) (spot_of at rs x)
 entity_of_spot at [] x = refl
 entity_of_spot at (r ∷ rs) x = let later = entity_of_spot (at + entity_size r.entity) rs x in
-    elim (nat_eq x r.id) as (λ t. cond t (Some r.entity) (entity_of rs x) ≡ option_map (λ (s : Spot). s.of.entity) (cond t (Some (record { at = at; of = r })) (spot_of (at + entity_size r.entity) rs x))) [
+    elim (nat_eq x r.id) as (λ t. cond t (Some r.entity) (entity_of rs x)
+    ≡ option_map (λ (s : Spot). s.of.entity) (cond t (Some (record { at = at; of = r })) (spot_of (at + entity_size r.entity) rs x))) [
       | true ↦ refl
       | false ↦ later
     ]
@@ -44,7 +45,8 @@ entity_of_spot at (r ∷ rs) x = let later = entity_of_spot (at + entity_size r.
 pub spot_id : (at : ℕ) (rs : List Record) (x : ℕ) (s : Spot) → spot_of at rs x ≡ Some s → s.of.id ≡ x
 spot_id at [] x s is = cc
 spot_id at (r ∷ rs) x s is =
-    (elim (nat_eq x r.id) as (λ t. nat_eq x r.id ≡ t → cond t (Some (record { at = at; of = r })) (spot_of (at + entity_size r.entity) rs x) ≡ Some s → s.of.id ≡ x) [
+    let later = spot_of (at + entity_size r.entity) rs x in
+    (elim (nat_eq x r.id) as (λ t. nat_eq x r.id ≡ t → cond t (Some (record { at = at; of = r })) later ≡ Some s → s.of.id ≡ x) [
       | true ↦ λ same is. let first : record { at = at; of = r } ≡ s = cc in sym (ap (λ (q : Spot). q.of.id) first) ∙ sym (eqb-true x r.id same)
       | false ↦ λ differs is. spot_id (at + entity_size r.entity) rs x s is
     ]) refl is
@@ -56,12 +58,12 @@ no_spot b at (r ∷ rs) x at_most above =
     let parts = and_parts (nat_lt b r.id) (rises_from r.id (ids rs)) above in
     let less = ltb-true b r.id parts.0 in
     ap (λ t. cond t (Some (record { at = at; of = r })) (spot_of (at + entity_size r.entity) rs x)) (ne_eqb x r.id (λ same. omega arith))
-        ∙ no_spot r.id (at + entity_size r.entity) rs x (omega arith) parts.1
+    ∙ no_spot r.id (at + entity_size r.entity) rs x (omega arith) parts.1
 
 -- the row of a part's first record, which no later record of it replaces
 row_first : (file : ℕ) (first : Spot) (later : Option Spot) (rows : FinMap nat_cmp Row) (x : ℕ) → (x ≡ first.of.id → later ≡ None)
     → option_or (option_map (spot_row file) later) (get (insert rows first.of.id (spot_row file first)) x)
-        ≡ option_or (option_map (spot_row file) (cond (nat_eq x first.of.id) (Some first) later)) (get rows x)
+    ≡ option_or (option_map (spot_row file) (cond (nat_eq x first.of.id) (Some first) later)) (get rows x)
 row_first file first later rows x none = by (cases_eq x first.of.id)
   where
     by : (x ≡ first.of.id) ⊎ (x ≡ first.of.id → ⊥) → option_or (option_map (spot_row file) later) (get (insert rows first.of.id (spot_row file first)) x)
@@ -78,8 +80,8 @@ pub get_rows_behind : (file at : ℕ) (rs : List Record) (rows : FinMap nat_cmp 
 get_rows_behind file at [] rows x ordered = refl
 get_rows_behind file at (r ∷ rs) rows x ordered =
     get_rows_behind file (at + entity_size r.entity) rs (insert rows r.id (row_at file at (header_for r))) x (rises_later r.id (ids rs) ordered)
-        ∙ row_first file (record { at = at; of = r }) (spot_of (at + entity_size r.entity) rs x) rows x
-            (λ same. no_spot r.id (at + entity_size r.entity) rs x (omega arith) ordered)
+    ∙ row_first file (record { at = at; of = r }) (spot_of (at + entity_size r.entity) rs x) rows x
+    (λ same. no_spot r.id (at + entity_size r.entity) rs x (omega arith) ordered)
 
 -- the row that an id had before
 pub before_of : (at : ℕ) (rs : List Record) (rows : FinMap nat_cmp Row) (x : ℕ) (row : Row) → rises (ids rs) ≡ true
@@ -104,11 +106,11 @@ has_behind : (file at : ℕ) (rs : List Record) (rows : FinMap nat_cmp Row) → 
     → has x (pins_in (rows_behind file at (map header_for rs) rows)) ≡ has x (add_all (ids rs) (pins_in rows))
 has_behind file at rs rows ordered x =
     has_pins (rows_behind file at (map header_for rs) rows) x
-        ∙ (ap (λ (o : Option Row). option_map_or is_pinned o false) (get_rows_behind file at rs rows x ordered)
-        ∙ (pinned_behind file (spot_of at rs x) (get rows x)
-        ∙ (ap (λ (o : Option Entity). is_some o || option_map_or is_pinned (get rows x) false) (sym (entity_of_spot at rs x))
-        ∙ (λ i. sym (has_ids rs x) i || sym (has_pins rows x) i)
-        ∙ sym (has_add_all x (ids rs) (pins_in rows)))))
+    ∙ (ap (λ (o : Option Row). option_map_or is_pinned o false) (get_rows_behind file at rs rows x ordered)
+    ∙ (pinned_behind file (spot_of at rs x) (get rows x)
+    ∙ (ap (λ (o : Option Entity). is_some o || option_map_or is_pinned (get rows x) false) (sym (entity_of_spot at rs x))
+    ∙ (λ i. sym (has_ids rs x) i || sym (has_pins rows x) i)
+    ∙ sym (has_add_all x (ids rs) (pins_in rows)))))
 
 -- the part's ids are pinned
 pub pins_behind : (file at : ℕ) (rs : List Record) (rows : FinMap nat_cmp Row) → rises (ids rs) ≡ true

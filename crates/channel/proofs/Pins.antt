@@ -1,19 +1,18 @@
 -- The pinned ids of rows.
-use Rattle.std.proofs.Common.{◌≡◌, ◌≤◌, ◌<◌, ℕ, Bool, true, false, cond, ◌&&◌, ◌||◌, not, List, [], ◌∷◌, map, Option, Some, None, ◌⊎◌, inl, inr, refl, sym, ap, subst, ◌∙◌, arith}
+use Rattle.std.proofs.Common.{◌≡◌, ◌≤◌, ℕ, Bool, true, false, cond, ◌||◌, List, [], ◌∷◌, map, Option, Some, None, ◌⊎◌, inl, inr, refl, sym, ap, subst, ◌∙◌, arith}
 use Rattle.std.specs.Prelude.{T, nat_eq, nat_lt}
 use Rattle.std.specs.List.{filter}
 use Rattle.std.specs.Ordering.{nat_cmp}
 use Rattle.std.specs.Option.{option_map_or}
 use Rattle.std.specs.FinMap.{FinMap, entries, entries_sorted, find, get, get-entries, insert, is_sorted}
 use Rattle.std.specs.FinMap.Entries.{below_all}
-use Rattle.std.proofs.lemmas.Bool.{and_from, and_parts, cases_Bool, cases_eq, eq-eqb, eqb-true, ltb-true, lt-ltb, ne_eqb, or_left}
+use Rattle.std.proofs.lemmas.Bool.{and_from, and_parts, cases_eq, eq-eqb, eqb-true, ltb-true, ne_eqb, or_left}
 use Rattle.graph_model.specs.Ids.{has, rises, rises_from, add, remove}
 use Rattle.graph_model.specs.Graph.{entity_of, ids}
 use Rattle.graph_model.specs.declared.entity.Entity.{Entity}
 use Rattle.graph_model.specs.declared.entity.Record.{Record}
 use Rattle.graph_model.proofs.Rising.{rises_add, rises_remove}
 use Rattle.graph_model.proofs.IdSets.{has_add, has_other}
-use Rattle.graph_model.proofs.Graphs.{has_ids}
 use Rattle.oid_table.specs.MapLaws.{get-insert_same, get-insert_other}
 use Rattle.entity_index.specs.declared.row.Row.{Row}
 use Rattle.entity_index.specs.Rows.{pinned, unpinned}
@@ -25,8 +24,14 @@ is_pinned row = row.state.pinned
 
 -- THE IDS
 
+abbrev pinned_of : List (ℕ × Row) → List (ℕ × Row)
+pinned_of es = filter (λ (e : ℕ × Row). e.1.state.pinned) es
+
+abbrev keys_of : List (ℕ × Row) → List ℕ
+keys_of es = map (λ (e : ℕ × Row). e.0) es
+
 abbrev pins_of : List (ℕ × Row) → List ℕ
-pins_of es = map (λ (e : ℕ × Row). e.0) (filter (λ (e : ℕ × Row). e.1.state.pinned) es)
+pins_of es = keys_of (pinned_of es)
 
 -- an id that is not above a bound has no row above it
 find_low : (b x : ℕ) (es : List (ℕ × Row)) → x ≤ b → T (below_all nat_cmp b es) → find nat_cmp x es ≡ None
@@ -37,13 +42,13 @@ find_low b x (e ∷ es) at_most below =
 
 -- the first row decides of its id, and of no other
 has_first : (e : ℕ × Row) (es : List (ℕ × Row)) (x : ℕ) → nat_eq x e.0 ≡ true → has x (pins_of es) ≡ false → has x (pins_of (e ∷ es)) ≡ is_pinned e.1
-has_first e es x is none = elim (e.1.state.pinned) as (λ t. has x (map (λ (e : ℕ × Row). e.0) (cond t (e ∷ filter (λ (e : ℕ × Row). e.1.state.pinned) es) (filter (λ (e : ℕ × Row). e.1.state.pinned) es))) ≡ t) [
+has_first e es x is none = elim (e.1.state.pinned) as (λ t. has x (keys_of (cond t (e ∷ pinned_of es) (pinned_of es))) ≡ t) [
   | true ↦ or_left _ _ is
   | false ↦ none
 ]
 
 has_later : (e : ℕ × Row) (es : List (ℕ × Row)) (x : ℕ) → nat_eq x e.0 ≡ false → has x (pins_of (e ∷ es)) ≡ has x (pins_of es)
-has_later e es x is = elim (e.1.state.pinned) as (λ t. has x (map (λ (e : ℕ × Row). e.0) (cond t (e ∷ filter (λ (e : ℕ × Row). e.1.state.pinned) es) (filter (λ (e : ℕ × Row). e.1.state.pinned) es))) ≡ has x (pins_of es)) [
+has_later e es x is = elim (e.1.state.pinned) as (λ t. has x (keys_of (cond t (e ∷ pinned_of es) (pinned_of es))) ≡ has x (pins_of es)) [
   | true ↦ ap (λ t. t || has x (pins_of es)) is
   | false ↦ refl
 ]
@@ -68,7 +73,7 @@ pins_above b [] below sorted = refl
 pins_above b (e ∷ es) below sorted =
     let later = pins_above e.0 es (first_below e es sorted) (others_sorted e es sorted) in
     let skipped = pins_above b es (T_right _ _ below) (others_sorted e es sorted) in
-    elim (e.1.state.pinned) as (λ t. rises_from b (map (λ (e : ℕ × Row). e.0) (cond t (e ∷ filter (λ (e : ℕ × Row). e.1.state.pinned) es) (filter (λ (e : ℕ × Row). e.1.state.pinned) es))) ≡ true) [
+    elim (e.1.state.pinned) as (λ t. rises_from b (keys_of (cond t (e ∷ pinned_of es) (pinned_of es))) ≡ true) [
       | true ↦ and_from _ _ (less_test b e.0 (T_left _ _ below)) later
       | false ↦ skipped
     ]
@@ -78,7 +83,7 @@ pins_of_rise [] sorted = refl
 pins_of_rise (e ∷ es) sorted =
     let later = pins_above e.0 es (first_below e es sorted) (others_sorted e es sorted) in
     let skipped = pins_of_rise es (others_sorted e es sorted) in
-    elim (e.1.state.pinned) as (λ t. rises (map (λ (e : ℕ × Row). e.0) (cond t (e ∷ filter (λ (e : ℕ × Row). e.1.state.pinned) es) (filter (λ (e : ℕ × Row). e.1.state.pinned) es))) ≡ true) [
+    elim (e.1.state.pinned) as (λ t. rises (keys_of (cond t (e ∷ pinned_of es) (pinned_of es))) ≡ true) [
       | true ↦ later
       | false ↦ skipped
     ]
@@ -106,7 +111,7 @@ pub same_set : (xs ys : List ℕ) → rises xs ≡ true → rises ys ≡ true �
 same_set xs ys xs_rise ys_rise same =
     let e : Entity = record { type_id = 0; refs = []; plain = [] } in
     let tables = same_table (as_table e xs) (as_table e ys) (ap rises (ids_as_table e xs) ∙ xs_rise) (ap rises (ids_as_table e ys) ∙ ys_rise)
-        (λ x. entity_as_table e xs x ∙ (ap (λ t. cond t (Some e) None) (same x) ∙ sym (entity_as_table e ys x))) in
+    (λ x. entity_as_table e xs x ∙ (ap (λ t. cond t (Some e) None) (same x) ∙ sym (entity_as_table e ys x))) in
     sym (ids_as_table e xs) ∙ (ap ids tables ∙ ids_as_table e ys)
 
 -- an id that is taken out of a set is not in it

@@ -1,11 +1,12 @@
 -- The table that rows give.
-use Rattle.std.proofs.Common.{◌≡◌, ◌≤◌, ◌<◌, ℕ, Bool, true, false, cond, ◌&&◌, List, [], ◌∷◌, map, Option, Some, None, option_map, inl, inr, refl, sym, ap, subst, ◌∙◌, arith}
+use Rattle.std.proofs.Common.{◌≡◌, ◌≤◌, ℕ, Bool, true, false, cond, ◌&&◌, List, [], ◌∷◌, length, map, Option, Some, None, option_map, inl, inr, refl, sym, ap, subst, ◌∙◌, arith}
 use Rattle.std.specs.Prelude.{T, nat_eq, nat_lt}
 use Rattle.std.specs.Ordering.{nat_cmp, eq_by_cmp, is_lt}
-use Rattle.std.specs.FinMap.{FinMap, entries, entries_sorted, find, get, get-entries, insert, is_sorted}
+use Rattle.std.specs.FinMap.{FinMap, entries, entries_sorted, find, get, get-entries, insert, is_sorted, len, len-entries}
 use Rattle.std.specs.FinMap.Entries.{below_all}
 use Rattle.std.proofs.lemmas.Bool.{and_from, and_parts, cases_eq, cases_order, eq-eqb, ltb-true, lt-ltb, ne_eqb}
 use Rattle.std.proofs.lemmas.Bool.Decides.{nat_tests}
+use Rattle.std.proofs.lemmas.List.{length-map}
 use Rattle.graph_model.specs.Ids.{rises, rises_from}
 use Rattle.graph_model.specs.Graph.{entity_of, ids}
 use Rattle.graph_model.specs.declared.entity.Entity.{Entity}
@@ -70,6 +71,9 @@ entity_of_table reads rows x = entity_of_entries reads (entries rows) x ∙ ap (
 pub table_rises : (reads : ℕ → List ℕ) (rows : FinMap nat_cmp Row) → rises (ids (table_in reads rows)) ≡ true
 table_rises reads rows = entries_rise reads (entries rows) (entries_sorted rows)
 
+pub table_length : (reads : ℕ → List ℕ) (rows : FinMap nat_cmp Row) → length (table_in reads rows) ≡ len rows
+table_length reads rows = length-map (entries rows) (record_at reads) ∙ sym (len-entries rows)
+
 -- TABLES THAT ANSWER ALIKE
 
 -- what is not above a bound is not in a table above it
@@ -132,7 +136,8 @@ under_same reads rows id row new_row is bytes x =
     ]
 
 -- another state of a row leaves the table
-pub table_same : (reads : ℕ → List ℕ) (rows : FinMap nat_cmp Row) (id : ℕ) (row new_row : Row) → get rows id ≡ Some row → bytes_at reads new_row ≡ bytes_at reads row → table_in reads (insert rows id new_row) ≡ table_in reads rows
+pub table_same : (reads : ℕ → List ℕ) (rows : FinMap nat_cmp Row) (id : ℕ) (row new_row : Row) → get rows id ≡ Some row → bytes_at reads new_row ≡ bytes_at reads row
+    → table_in reads (insert rows id new_row) ≡ table_in reads rows
 table_same reads rows id row new_row is bytes = same_table _ _ (table_rises reads (insert rows id new_row)) (table_rises reads rows)
     (λ x. entity_of_table reads (insert rows id new_row) x ∙ (under_same reads rows id row new_row is bytes x ∙ sym (entity_of_table reads rows x)))
 

@@ -192,7 +192,7 @@ impl<D: Disk> Channel<D> {
         ensures rows { result ≡ finite.len self.now.rows }
         ensures table { result ≡ length (core_of D.reads self.now).table }
     {
-        self.index.places()
+        self.index.len()
     }
 
     pub fn into_disk(self) -> D

@@ -137,6 +137,13 @@ impl EntityIndex {
         }
     }
 
+    /// The number of rows.
+    pub fn len(&self) -> u64
+        ensures { result ≡ finite.len self.now.contents }
+    {
+        self.rows.len()
+    }
+
     /// The number of places. Each id stands at one of them.
     pub fn places(&self) -> u64
         ensures count { result ≡ length self.now.keys }

@@ -21,7 +21,7 @@ invariant_of-self-2 g c =
     let same : SameButSpare c.self.inside.files files = record { disk = e.disk; log = e.log; state = e.state; sizes = e.sizes; confirmed = e.confirmed } in
     let fits : length ready ≤ c.reserve.new.self.spare = search rules in (
       rw c.reserve.ensures.rows (sound_prepared g.D.Disk.tells g.D.Disk.reads _ files same (Some ready) c.self.invariant.0),
-      rw c.reserve.ensures.rows (room_new _ files same ready c.reserve.new.self.spare fits c.in_ok-prepare.ensures.room),
+      rw c.reserve.ensures.rows (room_new _ files same _ c.self.invariant.1 ready c.reserve.new.self.spare fits c.in_ok-prepare.ensures.room),
       c.self.invariant.2,
     )
 
