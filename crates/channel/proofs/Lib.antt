@@ -14,3 +14,4 @@ pub mod Prepared
 pub mod Parted
 pub mod PartImages
 pub mod Events
+pub mod Typed

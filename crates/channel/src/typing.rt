@@ -1,5 +1,5 @@
 //! A type record is kept.
-ghost use Rattle.std.specs.Prelude.{◌≡◌, ◌≤◌, ◌⊎◌, ◌++◌, [], ◌∷◌, true, false, None, Some, IsTrue, length, OnOk, OnErr, IfErr, IfSome, IsErrOf};
+ghost use Rattle.std.specs.Prelude.{◌≡◌, ◌≤◌, ◌⊎◌, ◌++◌, [], ◌∷◌, true, false, None, Some, IsTrue, length, take, OnOk, OnErr, IfErr, IfSome, IsErrOf};
 ghost use Rattle.store_io.specs.Disk.{Rose};
 ghost use Rattle.store_io.specs.Whole.{EachImage};
 ghost use Rattle.core_steps.specs.Told.{TriedType};
@@ -12,6 +12,15 @@ use crate::channel::{Attempt, Channel};
 use crate::fault::{ChannelFault, note};
 use channel_files::FilesFault;
 use store_io::Disk;
+
+/// Writes a text over the front of these bytes.
+fn put_front(out: &mut [u8], text: &[u8])
+    requires { length text.now ≤ length out.old }
+    ensures front { take (length text.now) out.new ≡ text.now }
+    ensures length { length out.new ≡ length out.old }
+{
+    out[..text.len()].copy_from_slice(text);
+}
 
 impl<D: Disk> Channel<D> {
     /// Keeps a type record of 1 to 1,048,576 bytes on channel 0. What the channel stands for in the core stays.
@@ -48,16 +57,15 @@ impl<D: Disk> Channel<D> {
         let Some(log) = &mut self.types else {
             unreachable!()
         };
-        let fault = match self.files.keep_record(log, text) {
-            Ok(()) => return Ok(()),
-            Err(FilesFault::Full { number }) => ChannelFault::Full { number },
+        match self.files.keep_record(log, text) {
+            Ok(()) => Ok(()),
+            Err(FilesFault::Full { number }) => Err(note(&mut self.ending, &mut self.failed, ChannelFault::Full { number })),
             Err(FilesFault::Fault) => {
-                self.window[..text.len()].copy_from_slice(text);
+                put_front(&mut self.window, text);
                 self.tried = Some(Attempt::Record { length: text.len() });
-                ChannelFault::Fault
+                Err(note(&mut self.ending, &mut self.failed, ChannelFault::Fault))
             }
             Err(_) => unreachable!(),
-        };
-        Err(note(&mut self.ending, &mut self.failed, fault))
+        }
     }
 }
