@@ -19,7 +19,6 @@ use Rattle.channel.specs.OnDisk.{AgreesWithImages, IsOnDisk}
 use Rattle.channel.specs.Sound.{HasRoom, IsSound}
 use Rattle.channel.proofs.OnDisks.{KeepsRows, on_disk_still}
 
-
 -- the log and the inventory are the same, and there may be room for more files
 pub record SameLog (old new : Transactions) : Type 0 where
   pub log : new.log ≡ old.log

@@ -95,8 +95,16 @@ impl<D: Disk> Channel<D> {
         }
         match self.files.drop_store() {
             Ok(()) => Ok(()),
-            Err(FilesFault::Full { number }) => Err(note(&mut self.ending, &mut self.failed, ChannelFault::Full { number })),
-            Err(FilesFault::Fault) => Err(note(&mut self.ending, &mut self.failed, ChannelFault::Fault)),
+            Err(FilesFault::Full { number }) => Err(note(
+                &mut self.ending,
+                &mut self.failed,
+                ChannelFault::Full { number },
+            )),
+            Err(FilesFault::Fault) => Err(note(
+                &mut self.ending,
+                &mut self.failed,
+                ChannelFault::Fault,
+            )),
             Err(_) => unreachable!(),
         }
     }

@@ -35,15 +35,27 @@ impl<D: Disk> Channel<D> {
         ensures cause { self.old.failed ≡ false → IsErrOf result ChannelFault.Fault → Rose (D.faults self.old.files.disk) (D.faults self.new.files.disk) }
     {
         let Some(&row) = self.index.row(id) else {
-            return Err(note(&mut self.ending, &mut self.failed, ChannelFault::Gone { id }));
+            return Err(note(
+                &mut self.ending,
+                &mut self.failed,
+                ChannelFault::Gone { id },
+            ));
         };
         if self.failed {
             return Err(note(&mut self.ending, &mut self.failed, ChannelFault::Fault));
         }
         match self.files.read_entity(row.file, row.at, row.header, out) {
             Ok(()) => Ok(row.header.length as usize),
-            Err(FilesFault::Fault) => Err(note(&mut self.ending, &mut self.failed, ChannelFault::Fault)),
-            Err(FilesFault::Changed { at: _ }) => Err(note(&mut self.ending, &mut self.failed, ChannelFault::Changed { id })),
+            Err(FilesFault::Fault) => Err(note(
+                &mut self.ending,
+                &mut self.failed,
+                ChannelFault::Fault,
+            )),
+            Err(FilesFault::Changed { at: _ }) => Err(note(
+                &mut self.ending,
+                &mut self.failed,
+                ChannelFault::Changed { id },
+            )),
             Err(_) => unreachable!(),
         }
     }

@@ -37,9 +37,11 @@ impl<D: Disk> Channel<D> {
         ensures ok { OnOk result (self.new ≡ record self.old { files = self.new.files; prepared = Some part.now }) }
         ensures err { OnErr result (self.new ≡ record self.old { files = self.new.files }) }
         // More files may be kept, and nothing else of the files changes.
-        ensures files { self.new.files ≡ record self.old.files { transactions = record self.old.files.transactions {
-          inventory = record { state = self.old.files.transactions.inventory.state; spare = self.new.files.transactions.inventory.spare };
-        } } }
+        ensures files { self.new.files ≡ record self.old.files {
+          transactions = record self.old.files.transactions {
+            inventory = record { state = self.old.files.transactions.inventory.state; spare = self.new.files.transactions.inventory.spare };
+          };
+        } }
         ensures images { IsTrue D.tells → AgreesWithImages D.reads D.leaves self.old → AgreesWithImages D.reads D.leaves self.new }
     {
         let ready = Part::new(self.alloc, part)?;

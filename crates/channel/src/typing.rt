@@ -59,7 +59,11 @@ impl<D: Disk> Channel<D> {
         };
         match self.files.keep_record(log, text) {
             Ok(()) => Ok(()),
-            Err(FilesFault::Full { number }) => Err(note(&mut self.ending, &mut self.failed, ChannelFault::Full { number })),
+            Err(FilesFault::Full { number }) => Err(note(
+                &mut self.ending,
+                &mut self.failed,
+                ChannelFault::Full { number },
+            )),
             Err(FilesFault::Fault) => {
                 put_front(&mut self.window, text);
                 self.tried = Some(Attempt::Record { length: text.len() });
