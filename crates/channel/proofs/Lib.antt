@@ -15,3 +15,4 @@ pub mod Parted
 pub mod PartImages
 pub mod Events
 pub mod Typed
+pub mod Dropped

@@ -70,9 +70,11 @@ impl<D: Disk> Channel<D> {
         Ok(())
     }
 
-    /// Drops the log's last entry, which is a store, while the table is empty. The last part is then the store before it, and is confirmed.
+    /// Drops the log's last entry, which is a store, while the table is empty and nothing is ready. The last part is then the store before
+    /// it, and is confirmed.
     pub fn drop_last(&mut self) -> Result<(), ChannelFault>
         requires empty { self.old.rows ≡ finite.empty }
+        requires ready { self.old.prepared ≡ None }
         requires last { IsStore self.old.files.transactions.inventory.state.entry }
 
         ensures dropped { OnOk result (last_part self.new ≡ self.old.files.transactions.inventory.state.last_before) }

@@ -1,0 +1,79 @@
+-- A channel whose table is empty, once the log's last store was to be dropped.
+use Rattle.std.proofs.Common.{◌≡◌, ◌≤◌, ℕ, Bool, true, false, List, length, Option, Some, None, Result, Ok, Err, IsTrue, IsSome, IfSome, refl, sym, ap, subst, ◌∙◌}
+use Rattle.std.proofs.lemmas.Bool.{false≢true}
+use Rattle.std.specs.Ordering.{nat_cmp}
+use Rattle.std.specs.FinMap.{FinMap, empty, get, get-empty}
+use Rattle.gated_log.specs.State.{LogState}
+use Rattle.gated_log.specs.Log.{Each, IsLogOf, payloads_of}
+use Rattle.gated_log.specs.Of.{IsOf}
+use Rattle.core_steps.specs.declared.unit.Ending.{Ending}
+use Rattle.transactions_file.specs.Transactions.{Transactions}
+use Rattle.channel_files.specs.Channel.{Channel, IsInRange, IsOfDisk}
+use Rattle.channel_files.specs.Images.{EachAsRead}
+use Rattle.channel_files.specs.Whole.{HasWholeChunks}
+use Rattle.channel_files.specs.Outcomes.{FileStays}
+use Rattle.entity_index.specs.declared.row.Row.{Row}
+use Rattle.channel.specs.State.{ChannelState}
+use Rattle.channel.specs.OnDisk.{AgreesWithImages, IsOnDisk}
+use Rattle.channel.specs.Sound.{IsSound, HasRoom}
+use Rattle.channel.proofs.Sounds.{SameFiles, called}
+
+pub no_row : (rows : FinMap nat_cmp Row) (id : ℕ) (row : Row) → rows ≡ empty → get rows id ≡ Some row → ⊥
+no_row rows id row none is = apart row (sym (get-empty nat_cmp id) ∙ ap (λ (rows : FinMap nat_cmp Row). get rows id) (sym none) ∙ is)
+  where
+    apart : (row : Row) → ◌≡◌ {A = Option Row} None (Some row) → ⊥
+    apart row e = cc
+
+-- files that are the same
+pub same_all : {D : Type 0} (old new : Channel D) → new ≡ old → SameFiles old new
+same_all {D} old new is = record {
+  transactions = ap (λ (c : Channel D). c.transactions) is;
+  sizes = ap (λ (c : Channel D). c.sizes) is;
+  confirmed = ap (λ (c : Channel D). c.confirmed) is;
+}
+
+-- the new log is what the disk reads, and file 1 is as it was
+pub record IsThere {D : Type 0} (reads : D → ℕ → List ℕ) (leaves : D → ℕ → List ℕ → Bool) (old new : Channel D) : Type 0 where
+  pub of_disk : IsOfDisk new.transactions (reads new.disk)
+  pub whole : HasWholeChunks (reads new.disk)
+  pub types : FileStays 1 (reads old.disk) (reads new.disk) (leaves old.disk) (leaves new.disk)
+
+module _ {D : Type 0} (tells : Bool) (reads : D → ℕ → List ℕ) (leaves : D → ℕ → List ℕ → Bool) (old : ChannelState D) (was : IsSound tells reads old) (fine : old.failed ≡ false) (none : old.rows ≡ empty)
+    (new : Channel D) (ending : Ending) (failed : Bool) where
+  on_disk_dropped : IsTrue tells → IsThere reads leaves old.files new → IsOnDisk reads (called old new old.types ending failed old.tried)
+  on_disk_dropped told there = record {
+    of_disk = there.of_disk;
+    whole = there.whole;
+    rows = λ id row is. absurd (no_row old.rows id row none is);
+    before = λ _ id row is. absurd (no_row old.rows id row none is);
+    types = subst (λ (bytes : List ℕ). IfSome old.types (λ log. IsOf log bytes)) (sym there.types.reads) (was.on_disk told fine).types;
+  }
+
+  pub sound_dropped : new.sizes ≡ old.files.sizes → (IsTrue tells → failed ≡ false → IsThere reads leaves old.files new) → IsSound tells reads (called old new old.types ending failed old.tried)
+  sound_dropped sizes there = record {
+    number = was.number;
+    channels = was.channels;
+    sizes = subst IsInRange (sym sizes) was.sizes;
+    rows = λ id row is. absurd (no_row old.rows id row none is);
+    types = was.types;
+    types_file = was.types_file;
+    on_disk = λ told sound. on_disk_dropped told (there told sound);
+  }
+
+  -- a channel that failed stores nothing more
+  pub room_failed : (spare : ℕ) → HasRoom old spare → failed ≡ true → HasRoom (called old new old.types ending failed old.tried) spare
+  room_failed spare room is = record { rows = room.rows; files = λ ready sound. absurd (false≢true (sym sound ∙ is)) }
+
+  pub images_dropped : AgreesWithImages reads leaves old → EachAsRead new.transactions (reads new.disk) (leaves new.disk) → FileStays 1 (reads old.files.disk) (reads new.disk) (leaves old.files.disk) (leaves new.disk)
+      → AgreesWithImages reads leaves (called old new old.types ending failed old.tried)
+  images_dropped agrees files types = record {
+    files = files;
+    types =
+        subst (λ (bytes : List ℕ). IfSome old.types (λ log. Each (leaves new.disk 1) (IsLogOf log.header (payloads_of bytes)))) (sym types.reads)
+        (subst (λ (l : List ℕ → Bool). IfSome old.types (λ log. Each l (IsLogOf log.header (payloads_of (reads old.files.disk 1))))) (sym types.leaves) agrees.types);
+  }
+
+  -- nothing changed
+  pub images_same : AgreesWithImages reads leaves old → new ≡ old.files → AgreesWithImages reads leaves (called old new old.types ending failed old.tried)
+  images_same agrees same =
+      subst (λ (files : Channel D). AgreesWithImages reads leaves (called old files old.types ending failed old.tried)) (sym same) (record { files = agrees.files; types = agrees.types })
