@@ -1,13 +1,11 @@
 -- A channel whose table is empty, once the log's last store was to be dropped.
-use Rattle.std.proofs.Common.{◌≡◌, ◌≤◌, ℕ, Bool, true, false, List, length, Option, Some, None, Result, Ok, Err, IsTrue, IsSome, IfSome, refl, sym, ap, subst, ◌∙◌}
+use Rattle.std.proofs.Common.{◌≡◌, ℕ, Bool, true, false, List, Option, Some, None, IsTrue, IfSome, sym, ap, subst, ◌∙◌}
 use Rattle.std.proofs.lemmas.Bool.{false≢true}
 use Rattle.std.specs.Ordering.{nat_cmp}
 use Rattle.std.specs.FinMap.{FinMap, empty, get, get-empty}
-use Rattle.gated_log.specs.State.{LogState}
 use Rattle.gated_log.specs.Log.{Each, IsLogOf, payloads_of}
 use Rattle.gated_log.specs.Of.{IsOf}
 use Rattle.core_steps.specs.declared.unit.Ending.{Ending}
-use Rattle.transactions_file.specs.Transactions.{Transactions}
 use Rattle.channel_files.specs.Channel.{Channel, IsInRange, IsOfDisk}
 use Rattle.channel_files.specs.Images.{EachAsRead}
 use Rattle.channel_files.specs.Whole.{HasWholeChunks}

@@ -1,5 +1,5 @@
 -- A channel whose table gained a row.
-use Rattle.std.proofs.Common.{◌≡◌, ◌≤◌, ℕ, ◌+◌, Bool, false, inl, inr, List, length, Option, Some, None, is_some, cond, Result, Ok, Err, IsTrue, IfSome, OnOk, refl, sym, ap, subst, ◌∙◌, arith}
+use Rattle.std.proofs.Common.{◌≡◌, ◌≤◌, ℕ, ◌+◌, Bool, false, inl, inr, List, length, Option, Some, None, is_some, cond, Result, Ok, Err, IsTrue, IfSome, OnOk, sym, ap, subst, ◌∙◌, arith}
 use Rattle.std.specs.Result.{is_err}
 use Rattle.std.specs.Ordering.{nat_cmp}
 use Rattle.std.specs.FinMap.{FinMap, get, insert}

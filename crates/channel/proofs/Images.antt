@@ -1,5 +1,5 @@
 -- What an image that shows a channel's chunks has of the channel.
-use Rattle.std.proofs.Common.{◌≡◌, ◌≢◌, ℕ, ◌-◌, Bool, IsTrue, List, length, take, map, Option, Some, None, option_map, IfSome, refl, sym, ap, subst, ◌∙◌, arith}
+use Rattle.std.proofs.Common.{◌≡◌, ◌≢◌, ℕ, ◌-◌, Bool, IsTrue, List, Option, Some, None, option_map, IfSome, refl, sym, ap, subst, ◌∙◌, arith}
 use Rattle.std.specs.FinMap.{get}
 use Rattle.std.proofs.lemmas.List.{take_all}
 use Rattle.gated_log.specs.State.{LogState}
@@ -16,7 +16,7 @@ use Rattle.entity_index.specs.declared.row.Row.{Row}
 use Rattle.channel.specs.Entities.{entity_in}
 use Rattle.channel.specs.State.{ChannelState}
 use Rattle.channel.specs.Core.{bytes_at, core_of, last_part, log_next_id, payloads_kept, types_kept}
-use Rattle.channel.specs.OnDisk.{AgreesWithImages, HasAll, HasRecords, HoldsWith, IsOnDisk, Stands, WasThere, entity_at, row_before}
+use Rattle.channel.specs.OnDisk.{AgreesWithImages, HasAll, HoldsWith, IsOnDisk, Stands, WasThere, entity_at}
 use Rattle.channel.proofs.Tables.{entity_of_table, entity_under}
 
 -- what an option was mapped from

@@ -1,12 +1,9 @@
 -- Rows where the chunks of what is read stay, or become more.
-use Rattle.std.proofs.Common.{◌≡◌, ◌≢◌, ℕ, ◌+◌, ◌-◌, ◌≤◌, List, length, take, drop, Option, Some, None, IfSome, refl, ap, sym, subst, ◌∙◌, arith}
+use Rattle.std.proofs.Common.{◌≡◌, ℕ, ◌+◌, ◌-◌, ◌≤◌, List, length, take, drop, Option, Some, None, IfSome, refl, ap, sym, subst, ◌∙◌, arith}
 use Rattle.std.specs.Ordering.{nat_cmp}
 use Rattle.std.specs.FinMap.{FinMap, get}
-use Rattle.gated_log.specs.State.{LogState}
 use Rattle.gated_log.specs.Of.{IsOf}
-use Rattle.graph_model.specs.declared.entity.Record.{Record}
 use Rattle.data_file.specs.Headers.{IsHeaderAt}
-use Rattle.transactions_file.specs.Files.{is_live}
 use Rattle.transactions_file.specs.Transactions.{Transactions}
 use Rattle.entity_form.specs.declared.places.Header.{Header}
 use Rattle.channel_files.specs.Chunks.{Chunk, content_of}

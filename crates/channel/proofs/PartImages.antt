@@ -1,10 +1,9 @@
 -- What each image has of a channel after a part of a store, whatever was answered.
-use Rattle.std.proofs.Common.{◌≡◌, ◌⊎◌, ℕ, ◌+◌, ◌-◌, Bool, List, [], ◌∷◌, ◌++◌, length, Option, Some, None, Result, option_map, IsTrue, IfSome, inl, inr, refl, sym, ap, subst, ◌∙◌, arith}
+use Rattle.std.proofs.Common.{◌≡◌, ◌⊎◌, ℕ, ◌+◌, Bool, List, [], ◌∷◌, ◌++◌, length, Option, Some, None, Result, option_map, IsTrue, IfSome, inl, inr, refl, sym, ap, subst, ◌∙◌, arith}
 use Rattle.std.specs.Option.{option_or}
 use Rattle.std.specs.FinMap.{get}
 use Rattle.gated_log.specs.State.{LogState}
 use Rattle.gated_log.specs.Log.{Each, IsLogOf, payloads_of}
-use Rattle.gated_log.specs.Of.{IsOf}
 use Rattle.graph_model.specs.Graph.{entity_of, or_else, put_all}
 use Rattle.graph_model.specs.declared.entity.Entity.{Entity}
 use Rattle.graph_model.specs.declared.entity.Record.{Record}
@@ -13,12 +12,12 @@ use Rattle.transactions_file.specs.Inventory.{State}
 use Rattle.channel_files.specs.declared.fault.FilesFault.{FilesFault}
 use Rattle.channel_files.specs.declared.place.Place.{Place}
 use Rattle.channel_files.specs.Channel.{Channel}
-use Rattle.channel_files.specs.Chunks.{Chunk, content_of}
+use Rattle.channel_files.specs.Chunks.{content_of}
 use Rattle.channel_files.specs.Heads.{chunk_of}
 use Rattle.channel_files.specs.Images.{EachAsRead}
 use Rattle.channel_files.specs.Outcomes.{FileStays, IsStored, next_place}
 use Rattle.channel_files.specs.Shows.{HasStored, HasTables, Shows}
-use Rattle.channel_files.specs.Table.{Occurrence, last_of, occurrences_of, table_of, with_chunk}
+use Rattle.channel_files.specs.Table.{Occurrence, table_of, with_chunk}
 use Rattle.channel_files.specs.Whole.{HasWholeChunks}
 use Rattle.channel_files.proofs.WholeChunks.{whole_same, whole_with}
 use Rattle.entity_index.specs.declared.row.Row.{Row}
@@ -31,7 +30,7 @@ use Rattle.channel.proofs.Chunks.{chunk_is_whole, last_in_chunk, occurrence_at}
 use Rattle.channel.proofs.Images.{each_log, holds_shown, mapped_from, types_in}
 use Rattle.channel.proofs.OnDisks.{bytes_again}
 use Rattle.channel.proofs.PartRows.{Spot, entity_of_spot, spot_of}
-use Rattle.channel.proofs.Spelled.{entity_spelled, spelled}
+use Rattle.channel.proofs.Spelled.{entity_spelled}
 use Rattle.channel.proofs.Stored.{spot_right}
 use Rattle.channel.proofs.Tables.{entity_of_table, entity_under, table_read_same}
 

@@ -1,10 +1,9 @@
 -- A channel after a part of a store, whatever was answered.
-use Rattle.std.proofs.Common.{◌≡◌, ◌≢◌, ◌≤◌, ◌<◌, ℕ, suc, ◌+◌, ◌-◌, ◌^◌, Bool, true, false, cond, not, if◌then◌else◌, List, [], ◌∷◌, ◌++◌, length, map, Option, Some, None, Result, Ok, Err, option_map, unwrap_or, IsTrue, IsSome, IfSome, IfErr, inl, inr, refl, sym, ap, subst, ◌∙◌, arith}
+use Rattle.std.proofs.Common.{◌≡◌, ◌≤◌, ◌<◌, ℕ, ◌+◌, ◌-◌, ◌^◌, Bool, true, false, not, if◌then◌else◌, List, [], ◌∷◌, length, map, Option, Some, None, Result, Ok, Err, option_map, unwrap_or, IsTrue, IsSome, IfSome, IfErr, refl, sym, ap, subst, ◌∙◌, arith}
 use Rattle.std.specs.Prelude.{nat_lt, ◌==◌, IsErr, IsErrOf}
 use Rattle.std.specs.Option.{option_or}
 use Rattle.std.specs.FinMap.{get}
-use Rattle.std.proofs.lemmas.Bool.{cases_Bool, false≢true, lt-ltb, ltb-true, cond-false}
-use Rattle.store_io.specs.Whole.{EachImage}
+use Rattle.std.proofs.lemmas.Bool.{false≢true, lt-ltb, ltb-true}
 use Rattle.gated_log.specs.Of.{IsOf}
 use Rattle.graph_model.specs.Graph.{entity_size}
 use Rattle.graph_model.specs.declared.entity.Record.{Record}
@@ -13,7 +12,6 @@ use Rattle.transactions_file.specs.Inventory as inventory
 use Rattle.transactions_file.proofs.Lengths.{dead_length, length_push, live_push_same}
 use Rattle.transactions_file.proofs.Rising.{dead_above}
 use Rattle.entity_form.specs.Spelling.{IsHeaderOf}
-use Rattle.entity_form.proofs.Spellings.{length-entity_bytes}
 use Rattle.channel_files.specs.declared.fault.FilesFault.{FilesFault}
 use Rattle.channel_files.specs.declared.fault.FilesFault.TheVariants.{Fault, Full}
 use Rattle.channel_files.specs.declared.place.Place.{Place}
@@ -22,7 +20,7 @@ use Rattle.channel_files.specs.Channel.{Channel, IsInRange, IsOfDisk}
 use Rattle.channel_files.specs.Faults.{IsFaultOrFull, UnlessFault}
 use Rattle.channel_files.specs.Chunks.{content_of}
 use Rattle.channel_files.specs.Heads.{full_at_first, full_behind_creation, has_room, lacks_room, with_head, with_new_head, head_end, place_of}
-use Rattle.channel_files.specs.Outcomes.{FileStays, IsStored, next_place}
+use Rattle.channel_files.specs.Outcomes.{FileStays, IsStored}
 use Rattle.channel_files.specs.Whole.{HasWholeChunks}
 use Rattle.entity_index.specs.declared.row.Row.{Row}
 use Rattle.channel.specs.Entities.{chunk_for, header_for}
@@ -33,7 +31,7 @@ use Rattle.core_steps.specs.Told.{Tried}
 use Rattle.core_steps.specs.Rows.{part_taken}
 use Rattle.channel.specs.Core.{core_of, last_part, place_with}
 use Rattle.channel.specs.OnDisk.{IsOnDisk, Stands, row_before}
-use Rattle.channel.specs.Sound.{HasRoom, IsRightRow, IsSound}
+use Rattle.channel.specs.Sound.{IsRightRow, IsSound}
 use Rattle.channel.specs.Taking.{rows_behind, slot_for}
 use Rattle.channel.proofs.OnDisks.{KeepsRows, on_disk_still}
 use Rattle.channel.proofs.PartRows.{Spot, get_rows_behind, pins_behind, spot_id, spot_of, spot_row}

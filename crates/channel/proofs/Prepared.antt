@@ -1,18 +1,18 @@
 -- A channel with another part prepared, with more room for files, and with its last part confirmed.
-use Rattle.std.proofs.Common.{◌≡◌, ◌≢◌, ◌≤◌, ℕ, Bool, true, false, List, length, Option, Some, None, IsTrue, IsSome, IfSome, refl, sym, ap, subst, ◌∙◌, arith}
+use Rattle.std.proofs.Common.{◌≡◌, ◌≤◌, ℕ, Bool, true, List, length, Option, Some, None, IsTrue, IsSome, IfSome, refl, sym, ap, subst, ◌∙◌, arith}
 use Rattle.std.proofs.lemmas.Bool.{false≢true}
 use Rattle.gated_log.specs.State.{LogState}
 use Rattle.gated_log.specs.Log.{IsLogOf, payloads_of}
 use Rattle.gated_log.specs.Of.{IsOf}
 use Rattle.graph_model.specs.declared.entity.Record.{Record}
 use Rattle.transactions_file.specs.Files.{is_live, length_in}
-use Rattle.transactions_file.specs.Inventory.{State, inventory_of}
+use Rattle.transactions_file.specs.Inventory.{State}
 use Rattle.transactions_file.specs.Transactions.{Transactions}
 use Rattle.channel_files.specs.declared.sizes.Sizes.{Sizes}
 use Rattle.channel_files.specs.Channel.{Channel, IsInRange, IsOfDisk}
 use Rattle.channel_files.specs.Chunks.{content_of}
 use Rattle.channel_files.specs.Heads.{lacks_room}
-use Rattle.channel_files.specs.Images.{AgreesBelow, EachAsRead, IsAsRead}
+use Rattle.channel_files.specs.Images.{AgreesBelow, EachAsRead}
 use Rattle.channel.specs.State.{ChannelState}
 use Rattle.channel.specs.Core.{last_part}
 use Rattle.channel.specs.OnDisk.{AgreesWithImages, IsOnDisk}

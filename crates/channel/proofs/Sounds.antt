@@ -1,6 +1,5 @@
 -- What holds of a channel still holds after a call that keeps its inventory and its rows.
-use Rattle.std.proofs.Common.{◌≡◌, ◌≤◌, ◌↔◌, ℕ, Bool, true, false, List, length, Option, IsTrue, IsSome, IfSome, refl, sym, ap, subst, ◌∙◌}
-use Rattle.std.specs.FinMap.{get}
+use Rattle.std.proofs.Common.{◌≡◌, ◌≤◌, ◌↔◌, ℕ, Bool, true, false, List, Option, IsTrue, IsSome, IfSome, refl, sym, ap, subst, ◌∙◌}
 use Rattle.gated_log.specs.State.{LogState}
 use Rattle.gated_log.specs.Of.{IsOf}
 use Rattle.core_steps.specs.declared.unit.Ending.{Ending}
@@ -11,10 +10,9 @@ use Rattle.channel_files.specs.declared.sizes.Sizes.{Sizes}
 use Rattle.channel_files.specs.Chunks.{content_of}
 use Rattle.channel_files.specs.Channel.{Channel, IsInRange, IsOfDisk}
 use Rattle.channel_files.specs.Heads.{lacks_room}
-use Rattle.entity_index.specs.declared.row.Row.{Row}
 use Rattle.channel.specs.State.{ChannelState}
 use Rattle.channel.specs.OnDisk.{IsOnDisk}
-use Rattle.channel.specs.Sound.{IsSound, IsRightRow, HasRoom}
+use Rattle.channel.specs.Sound.{IsSound, HasRoom}
 use Rattle.channel.proofs.OnDisks.{KeepsRows, on_disk_still}
 
 -- files of another disk

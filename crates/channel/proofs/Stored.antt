@@ -5,21 +5,18 @@ use Rattle.std.specs.List.{AllByRecursion}
 use Rattle.std.specs.Option.{option_or}
 use Rattle.std.specs.Ordering.{nat_cmp}
 use Rattle.std.specs.FinMap.{FinMap, get}
-use Rattle.graph_model.specs.Ids.{has, rises}
-use Rattle.graph_model.specs.Graph.{entity_of, entity_size, ids, lists, or_else, put_all}
+use Rattle.graph_model.specs.Ids.{has}
+use Rattle.graph_model.specs.Graph.{entity_of, entity_size, ids, or_else, put_all}
 use Rattle.graph_model.specs.declared.entity.Entity.{Entity}
 use Rattle.graph_model.specs.declared.entity.Record.{Record}
 use Rattle.graph_model.proofs.Graphs.{entity_of_put_all, has_ids}
 use Rattle.graph_model.proofs.Rising.{rises_put_all}
-use Rattle.entity_form.proofs.Spellings.{length-entity_bytes}
 use Rattle.channel_files.specs.declared.place.Place.{Place}
-use Rattle.channel_files.specs.Chunks.{Chunk}
 use Rattle.channel_files.specs.Heads.{chunk_of}
-use Rattle.channel_files.specs.Table.{IsSameTable, Occurrence, last_of, occurrences_of, table_of, with_chunk}
+use Rattle.channel_files.specs.Table.{IsSameTable, Occurrence, table_of, with_chunk}
 use Rattle.channel_files.specs.Whole.{HasWholeChunks, header_of}
 use Rattle.channel_files.proofs.FoundEntities.{found_there, length_told}
 use Rattle.entity_index.specs.declared.row.Row.{Row}
-use Rattle.channel.specs.declared.part.Slot.{Slot}
 use Rattle.channel.specs.Core.{bytes_at, table_in}
 use Rattle.channel.specs.Entities.{chunk_for, entity_in, header_for}
 use Rattle.channel.specs.OnDisk.{Stands, row_before}

@@ -1,11 +1,11 @@
 -- A type record that was to be kept on channel 0, and what is there after each answer.
-use Rattle.std.proofs.Common.{◌≡◌, ◌↔◌, ◌⊎◌, inl, inr, ℕ, ◌+◌, Bool, true, false, List, [], ◌∷◌, ◌++◌, length, take, drop, Option, Some, None, Result, Ok, Err, IsTrue, IsSome, IfSome, IfErr, OnOk, OnErr, refl, sym, ap, subst, ◌∙◌, arith}
+use Rattle.std.proofs.Common.{◌≡◌, ◌⊎◌, inl, inr, ℕ, ◌+◌, Bool, false, List, [], ◌∷◌, ◌++◌, length, take, drop, Option, Some, None, Result, Err, IsTrue, IfSome, IfErr, refl, sym, ap, subst, ◌∙◌, arith}
 use Rattle.std.specs.Prelude.{IsErrOf}
 use Rattle.std.proofs.lemmas.List.{take-append-le, take_at}
 use Rattle.store_io.specs.Disk.{Only}
 use Rattle.store_io.specs.Whole.{EachImage, IsImage}
 use Rattle.gated_log.specs.State.{LogState}
-use Rattle.gated_log.specs.Log.{Each, IsBeforeOrAfter, IsLogOf, payloads_of}
+use Rattle.gated_log.specs.Log.{Each, IsLogOf, payloads_of}
 use Rattle.gated_log.specs.Of.{IsOf}
 use Rattle.gated_log.proofs.Payloads.{before_or_after}
 use Rattle.core_steps.specs.declared.unit.Ending.{Ending}
@@ -24,7 +24,7 @@ use Rattle.channel.specs.declared.fault.ChannelFault.TheVariants as channel
 use Rattle.channel.specs.Faults.{UnlessFault}
 use Rattle.channel.specs.State.{ChannelState}
 use Rattle.channel.specs.Core.{core_of, last_part, log_next_id, payloads_kept, types_kept}
-use Rattle.channel.specs.OnDisk.{AgreesWithImages, HoldsChannel, HoldsWith, IsOnDisk}
+use Rattle.channel.specs.OnDisk.{AgreesWithImages, HoldsChannel, HoldsWith}
 use Rattle.channel.specs.Sound.{IsSound, HasRoom}
 use Rattle.channel.proofs.Images.{holds_shown, kept_in}
 use Rattle.channel.proofs.OnDisks.{core_still, on_disk_still}

@@ -1,5 +1,5 @@
 -- What a channel stands for in the core, and what it tells of itself.
-use Rattle.std.specs.Prelude.{ℕ, ◌-◌, ◌^◌, Bool, false, cond, ◌||◌, nat_lt, nat_eq, List, [], length, take, drop, map, Option, Some, None}
+use Rattle.std.specs.Prelude.{ℕ, ◌-◌, ◌^◌, Bool, false, cond, ◌||◌, nat_lt, nat_eq, List, [], take, drop, map, Option, Some, None}
 use Rattle.std.specs.List.{filter}
 use Rattle.std.specs.Ordering.{nat_cmp}
 use Rattle.std.specs.FinMap.{FinMap, entries}

@@ -1,9 +1,6 @@
 -- How a channel stands on its disk, in what is read and in each image.
-use Rattle.std.specs.Prelude.{◌≡◌, ◌≢◌, ℕ, ◌-◌, ◌==◌, ◌⊎◌, Bool, IsTrue, if◌then◌else◌, List, [], ◌∷◌, ◌++◌, option_map, Option, Some, None, IfSome}
-use Rattle.std.specs.Ordering.{nat_cmp}
-use Rattle.std.specs.FinMap.{FinMap, get}
-use Rattle.store_io.specs.Whole.{EachImage}
-use Rattle.gated_log.specs.State.{LogState}
+use Rattle.std.specs.Prelude.{◌≡◌, ◌≢◌, ℕ, ◌-◌, ◌==◌, Bool, if◌then◌else◌, List, [], ◌∷◌, option_map, Option, Some, IfSome}
+use Rattle.std.specs.FinMap.{get}
 use Rattle.gated_log.specs.Log.{IsLogOf, payloads_of, Each}
 use Rattle.gated_log.specs.Of.{IsOf}
 use Rattle.graph_model.specs.Graph.{entity_of, put_all}
@@ -18,7 +15,7 @@ use Rattle.entity_index.specs.declared.row.Row.{Row}
 use Rattle.channel.specs.declared.part.Slot.{Slot}
 use Rattle.channel.specs.Entities.{entity_in}
 use Rattle.channel.specs.State.{ChannelState}
-use Rattle.channel.specs.Core.{bytes_at, last_part, log_next_id, core_of, payloads_kept, types_kept}
+use Rattle.channel.specs.Core.{bytes_at, last_part, log_next_id, core_of, types_kept}
 
 -- the entity of an id stands where the row says, is the last one of it in the chunks up to this number, and begins with the row's header
 pub record Stands (reads : ℕ → List ℕ) (number id : ℕ) (row : Row) : Type 0 where

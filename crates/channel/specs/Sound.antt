@@ -1,13 +1,11 @@
 -- What holds of each channel, whether or not its disk tells what it reads.
-use Rattle.std.specs.Prelude.{◌≡◌, ◌≢◌, ℕ, ◌<◌, ◌≤◌, ◌↔◌, Bool, true, false, IsTrue, IsSome, IfSome, List, length, Option, Some}
+use Rattle.std.specs.Prelude.{◌≡◌, ℕ, ◌<◌, ◌≤◌, ◌↔◌, Bool, true, false, IsTrue, IsSome, IfSome, List, length, Some}
 use Rattle.std.specs.FinMap.{get}
-use Rattle.gated_log.specs.State.{LogState}
 use Rattle.transactions_file.specs.Files.{is_live}
 use Rattle.entity_form.specs.Spelling.{IsHeaderOf}
 use Rattle.channel_files.specs.Channel.{IsInRange}
 use Rattle.channel_files.specs.Heads.{lacks_room}
 use Rattle.entity_index.specs.declared.row.Row.{Row}
-use Rattle.graph_model.specs.declared.entity.Record.{Record}
 use Rattle.channel.specs.State.{ChannelState}
 use Rattle.channel.specs.OnDisk.{IsOnDisk}
 

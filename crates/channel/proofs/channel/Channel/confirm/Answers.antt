@@ -1,5 +1,5 @@
 -- The last part is confirmed.
-use Rattle.std.proofs.Common.{ℕ, ◌≡◌, sym, subst}
+use Rattle.std.proofs.Common.{◌≡◌, sym, subst}
 use Rattle.channel.specs.Core.{last_part}
 use Rattle.channel.specs.State.{ChannelState}
 use Rattle.channel.proofs.Prepared.{room_confirmed, sound_confirmed}

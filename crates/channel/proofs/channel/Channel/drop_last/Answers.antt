@@ -1,5 +1,5 @@
 -- No row stands on what is dropped, and the log of types is left.
-use Rattle.std.proofs.Common.{◌≡◌, false, None, Err, IsTrue, sym, ap, subst, ◌∙◌}
+use Rattle.std.proofs.Common.{◌≡◌, false, None, Err, sym, ap, subst, ◌∙◌}
 use Rattle.std.proofs.lemmas.Bool.{false≢true}
 use Rattle.std.specs.FinMap.{empty}
 use Rattle.channel_files.specs.Heads.{full_record}

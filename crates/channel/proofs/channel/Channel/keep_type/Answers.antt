@@ -1,10 +1,9 @@
 -- What stays of the channel, and what is there of its log of types.
-use Rattle.std.proofs.Common.{◌≡◌, ◌≤◌, ◌+◌, ℕ, false, true, length, take, drop, ◌++◌, List, Option, Some, Err, IsTrue, IfSome, refl, sym, ap, subst, ◌∙◌, arith}
+use Rattle.std.proofs.Common.{◌≡◌, ℕ, false, length, take, drop, ◌++◌, List, Some, Err, sym, ap, subst, ◌∙◌, arith}
 use Rattle.std.proofs.lemmas.Bool.{false≢true}
 use Rattle.gated_log.specs.State.{LogState}
 use Rattle.core_steps.specs.Told.{TriedType}
 use Rattle.channel.specs.Attempts.{tried_of}
-use Rattle.channel.specs.OnDisk.{AgreesWithImages}
 use Rattle.channel.proofs.Sounds.{sound_refused, room_refused}
 use Rattle.channel.proofs.Typed.{sound_typed, room_typed, core_typed, images_typed, log_at_full, images_at_full, not_kept, stop_typed, synced_log, unless_full, written_over}
 use Rattle.channel.proofs.channel.Channel.keep_type.Goals as goal

@@ -1,9 +1,7 @@
 -- The row says where the entity stands, and its bytes there are the spelling of the table's.
-use Rattle.std.proofs.Common.{◌≡◌, ◌≤◌, length, Some, Err, IsTrue, false, refl, sym, ap, ◌∙◌, arith}
+use Rattle.std.proofs.Common.{◌≡◌, Err, false, sym, ap, ◌∙◌, arith}
 use Rattle.std.proofs.lemmas.Bool.{false≢true}
-use Rattle.std.specs.FinMap.{get}
 use Rattle.field_bytes.proofs.Laws.{IsBytes}
-use Rattle.channel.specs.declared.fault.ChannelFault.TheVariants as fault
 use Rattle.channel.proofs.OnDisks.{row_within, row_header_there}
 use Rattle.channel.proofs.Sounds.{SameFiles, sound_read, room_called, sound_refused, room_refused}
 use Rattle.channel.proofs.Lookups.{told_gone, told_other, ok_is_not, fault_is_not, changed_is_not, entity_read}

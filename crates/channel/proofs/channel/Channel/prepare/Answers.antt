@@ -1,5 +1,5 @@
 -- More room, and another part prepared.
-use Rattle.std.proofs.Common.{◌≡◌, ◌≤◌, length, Some, rules}
+use Rattle.std.proofs.Common.{◌≤◌, length, Some, rules}
 use Rattle.channel.proofs.Prepared.{SameButSpare, agrees_prepared, room_new, room_still, sound_prepared}
 use Rattle.channel.proofs.channel.Channel.prepare.Goals as goal
 

@@ -1,10 +1,9 @@
 -- The part is stored, or refused with all of it ready.
-use Rattle.std.proofs.Common.{◌≡◌, ◌≤◌, ◌<◌, ◌+◌, ◌^◌, ℕ, true, false, List, length, Option, Some, None, Ok, Err, IsTrue, IfSome, refl, sym, ap, subst, ◌∙◌, rules}
+use Rattle.std.proofs.Common.{◌≡◌, ◌≤◌, ◌<◌, ◌+◌, ◌^◌, ℕ, false, List, length, Option, Some, Ok, Err, IfSome, refl, sym, ap, subst, ◌∙◌, rules}
 use Rattle.std.proofs.lemmas.Bool.{false≢true}
 use Rattle.graph_model.specs.declared.entity.Record.{Record}
 use Rattle.transactions_file.specs.Inventory.{IsSound as IsSoundInventory}
 use Rattle.channel_files.specs.declared.fault.FilesFault.{FilesFault}
-use Rattle.channel_files.specs.declared.fault.FilesFault.TheVariants as files
 use Rattle.channel_files.specs.declared.place.Place.{Place}
 use Rattle.channel_files.specs.Outcomes.{IsStored}
 use Rattle.channel.specs.Core.{core_of, last_part, place_with}
