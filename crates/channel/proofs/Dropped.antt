@@ -36,42 +36,47 @@ pub record IsThere {D : Type 0} (reads : D → ℕ → List ℕ) (leaves : D →
   pub whole : HasWholeChunks (reads new.disk)
   pub types : FileStays 1 (reads old.disk) (reads new.disk) (leaves old.disk) (leaves new.disk)
 
-module _ {D : Type 0} (tells : Bool) (reads : D → ℕ → List ℕ) (leaves : D → ℕ → List ℕ → Bool) (old : ChannelState D) (was : IsSound tells reads old) (fine : old.failed ≡ false) (none : old.rows ≡ empty)
-    (new : Channel D) (ending : Ending) (failed : Bool) where
-  on_disk_dropped : IsTrue tells → IsThere reads leaves old.files new → IsOnDisk reads (called old new old.types ending failed old.tried)
-  on_disk_dropped told there = record {
+module _ {D : Type 0} {tells : Bool} {reads : D → ℕ → List ℕ} (leaves : D → ℕ → List ℕ → Bool) {old : ChannelState D} (new : Channel D) (was : IsSound tells reads old)
+    (none : old.rows ≡ empty) (ending : Ending) (failed : Bool) where
+  on_disk_dropped : IsOnDisk reads old → IsThere reads leaves old.files new → IsOnDisk reads (called old new old.types ending failed old.tried)
+  on_disk_dropped on there = record {
     of_disk = there.of_disk;
     whole = there.whole;
     rows = λ id row is. absurd (no_row old.rows id row none is);
     before = λ _ id row is. absurd (no_row old.rows id row none is);
-    types = subst (λ (bytes : List ℕ). IfSome old.types (λ log. IsOf log bytes)) (sym there.types.reads) (was.on_disk told fine).types;
+    types = subst (λ (bytes : List ℕ). IfSome old.types (λ log. IsOf log bytes)) (sym there.types.reads) on.types;
   }
 
-  pub sound_dropped : new.sizes ≡ old.files.sizes → (IsTrue tells → failed ≡ false → IsThere reads leaves old.files new) → IsSound tells reads (called old new old.types ending failed old.tried)
-  sound_dropped sizes there = record {
+  pub sound_dropped : old.failed ≡ false → new.sizes ≡ old.files.sizes → (IsTrue tells → failed ≡ false → IsThere reads leaves old.files new)
+      → IsSound tells reads (called old new old.types ending failed old.tried)
+  sound_dropped fine sizes there = record {
     number = was.number;
     channels = was.channels;
     sizes = subst IsInRange (sym sizes) was.sizes;
     rows = λ id row is. absurd (no_row old.rows id row none is);
     types = was.types;
     types_file = was.types_file;
-    on_disk = λ told sound. on_disk_dropped told (there told sound);
+    on_disk = λ told sound. on_disk_dropped (was.on_disk told fine) (there told sound);
   }
 
-  -- a channel that failed stores nothing more
-  pub room_failed : (spare : ℕ) → HasRoom old spare → failed ≡ true → HasRoom (called old new old.types ending failed old.tried) spare
-  room_failed spare room is = record { rows = room.rows; files = λ ready sound. absurd (false≢true (sym sound ∙ is)) }
+-- a channel that failed stores nothing more
+pub room_failed : {D : Type 0} {old : ChannelState D} {spare : ℕ} (new : Channel D) (ending : Ending) (failed : Bool) → HasRoom old spare → failed ≡ true
+    → HasRoom (called old new old.types ending failed old.tried) spare
+room_failed new ending failed room is = record { rows = room.rows; files = λ ready sound. absurd (false≢true (sym sound ∙ is)) }
 
-  pub images_dropped : AgreesWithImages reads leaves old → EachAsRead new.transactions (reads new.disk) (leaves new.disk) → FileStays 1 (reads old.files.disk) (reads new.disk) (leaves old.files.disk) (leaves new.disk)
-      → AgreesWithImages reads leaves (called old new old.types ending failed old.tried)
-  images_dropped agrees files types = record {
-    files = files;
-    types =
-        subst (λ (bytes : List ℕ). IfSome old.types (λ log. Each (leaves new.disk 1) (IsLogOf log.header (payloads_of bytes)))) (sym types.reads)
-        (subst (λ (l : List ℕ → Bool). IfSome old.types (λ log. Each l (IsLogOf log.header (payloads_of (reads old.files.disk 1))))) (sym types.leaves) agrees.types);
-  }
+-- file 1 is as it was, and the other files agree
+pub images_dropped : {D : Type 0} {reads : D → ℕ → List ℕ} {leaves : D → ℕ → List ℕ → Bool} {old : ChannelState D} (new : Channel D) (ending : Ending) (failed : Bool)
+    → AgreesWithImages reads leaves old → EachAsRead new.transactions (reads new.disk) (leaves new.disk) → FileStays 1 (reads old.files.disk) (reads new.disk) (leaves old.files.disk) (leaves new.disk)
+    → AgreesWithImages reads leaves (called old new old.types ending failed old.tried)
+images_dropped {D} {reads} {leaves} {old} new ending failed agrees files types = record {
+  files = files;
+  types =
+      subst (λ (bytes : List ℕ). IfSome old.types (λ log. Each (leaves new.disk 1) (IsLogOf log.header (payloads_of bytes)))) (sym types.reads)
+      (subst (λ (l : List ℕ → Bool). IfSome old.types (λ log. Each l (IsLogOf log.header (payloads_of (reads old.files.disk 1))))) (sym types.leaves) agrees.types);
+}
 
-  -- nothing changed
-  pub images_same : AgreesWithImages reads leaves old → new ≡ old.files → AgreesWithImages reads leaves (called old new old.types ending failed old.tried)
-  images_same agrees same =
-      subst (λ (files : Channel D). AgreesWithImages reads leaves (called old files old.types ending failed old.tried)) (sym same) (record { files = agrees.files; types = agrees.types })
+-- nothing changed
+pub images_same : {D : Type 0} {reads : D → ℕ → List ℕ} {leaves : D → ℕ → List ℕ → Bool} {old : ChannelState D} (new : Channel D) (ending : Ending) (failed : Bool)
+    → AgreesWithImages reads leaves old → new ≡ old.files → AgreesWithImages reads leaves (called old new old.types ending failed old.tried)
+images_same {D} {reads} {leaves} {old} new ending failed agrees same =
+    subst (λ (files : Channel D). AgreesWithImages reads leaves (called old files old.types ending failed old.tried)) (sym same) (record { files = agrees.files; types = agrees.types })

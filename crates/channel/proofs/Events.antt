@@ -43,7 +43,8 @@ module _ (p : Place) (core : CoreChannel) (hand : Hand) (number : ℕ) (may : Ma
       ∙ ap (λ (phase : Phase). Some (part_marked (ids p.records) phase (part_taken p o.number core, part_given p o hand))) may.idle
       ∙ ap (λ (n : ℕ). Some (part_taken p n core, part_given p o hand)) same
 
-  pub part_event : (core' : CoreChannel) (hand' : Hand) → core' ≡ part_taken p number core → hand' ≡ record hand { opened = with_part p.number hand.opened } → channel_step p core hand StorePart ≡ Some (core', hand')
+  pub part_event : (core' : CoreChannel) (hand' : Hand) → core' ≡ part_taken p number core → hand' ≡ record hand { opened = with_part p.number hand.opened } → channel_step p core hand
+      StorePart ≡ Some (core', hand')
   part_event core' hand' core_is hand_is =
       taken_from hand.opened may.number_is may.in_store may.not_yet
       ∙ ap (λ (x : CoreChannel). Some (x, record hand { opened = with_part p.number hand.opened })) (sym core_is) ∙ ap (λ (h : Hand). Some (core', h)) (sym hand_is)

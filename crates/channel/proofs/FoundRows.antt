@@ -16,7 +16,8 @@ same_row : (a b : Row) → ◌≡◌ {A = Option Row} (Some a) (Some b) → a �
 same_row a b e = cc
 
 -- what holds of each row and of the one that is put in
-pub with_row : (P : ℕ → Row → Type 0) (rows : FinMap nat_cmp Row) (id : ℕ) (row : Row) → P id row → ((x : ℕ) (r : Row) → get rows x ≡ Some r → P x r) → (x : ℕ) (r : Row) → get (insert rows id row) x ≡ Some r → P x r
+pub with_row : (P : ℕ → Row → Type 0) (rows : FinMap nat_cmp Row) (id : ℕ) (row : Row) → P id row → ((x : ℕ) (r : Row) → get rows x ≡ Some r → P x r)
+    → (x : ℕ) (r : Row) → get (insert rows id row) x ≡ Some r → P x r
 with_row P rows id row here each x r is = elim (cases_eq x id) [
   | inl same ↦
       let found : row ≡ r = same_row row r (sym (get-insert_same rows id row) ∙ ap (λ (k : ℕ). get (insert rows id row) k) (sym same) ∙ is) in

@@ -34,12 +34,14 @@ pub kept_in : (o : Option LogState) (bytes : List ℕ) → IfSome o (λ log. IsO
 kept_in None bytes is = tt
 kept_in (Some log) bytes is = take_all log.count (payloads_of bytes) (omega (arith, is.count))
 
-pub types_in : (o : Option LogState) (bytes image : List ℕ) → IfSome o (λ log. IsOf log bytes) → IfSome o (λ log. IsLogOf log.header (payloads_of bytes) image) → IfSome o (λ log. IsLogOf log.header (payloads_kept bytes o) image)
+pub types_in : (o : Option LogState) (bytes image : List ℕ) → IfSome o (λ log. IsOf log bytes) → IfSome o (λ log. IsLogOf log.header (payloads_of bytes) image)
+    → IfSome o (λ log. IsLogOf log.header (payloads_kept bytes o) image)
 types_in None bytes image is log = tt
 types_in (Some log) bytes image is there = subst (λ (ps : List (List ℕ)). IsLogOf log.header ps image) (sym (kept_in (Some log) bytes is)) there
 
 -- a log that each image has
-pub each_log : (o : Option LogState) (leaves : List ℕ → Bool) (bytes image : List ℕ) → IfSome o (λ log. Each leaves (IsLogOf log.header (payloads_of bytes))) → IsTrue (leaves image) → IfSome o (λ log. IsLogOf log.header (payloads_of bytes) image)
+pub each_log : (o : Option LogState) (leaves : List ℕ → Bool) (bytes image : List ℕ) → IfSome o (λ log. Each leaves (IsLogOf log.header (payloads_of bytes))) → IsTrue (leaves image)
+    → IfSome o (λ log. IsLogOf log.header (payloads_of bytes) image)
 each_log None leaves bytes image each left = tt
 each_log (Some log) leaves bytes image each left = each image left
 
@@ -85,10 +87,12 @@ holds_shown reads c on image types shows there = holds reads c on image shows.co
 pub holds_read : {D : Type 0} (reads : D → ℕ → List ℕ) (c : ChannelState D) → IsOnDisk reads c → HoldsWith reads c (types_kept reads c) (reads c.files.disk)
 holds_read reads c on =
     let bytes = reads c.files.disk 1 in
-    holds reads c on (reads c.files.disk) refl (types_kept reads c) c.files.transactions.inventory.state on.of_disk.kept.inventory refl refl (types_in c.types bytes bytes on.types (types_read c.types bytes on.types))
+    holds reads c on (reads c.files.disk) refl (types_kept reads c) c.files.transactions.inventory.state on.of_disk.kept.inventory refl refl (types_in c.types bytes bytes on.types
+    (types_read c.types bytes on.types))
 
 -- so has each image that a stop may leave
-pub holds_left : {D : Type 0} (reads : D → ℕ → List ℕ) (leaves : D → ℕ → List ℕ → Bool) (c : ChannelState D) → IsOnDisk reads c → AgreesWithImages reads leaves c → EachImage (leaves c.files.disk) (HoldsWith reads c (types_kept reads c))
+pub holds_left : {D : Type 0} (reads : D → ℕ → List ℕ) (leaves : D → ℕ → List ℕ → Bool) (c : ChannelState D) → IsOnDisk reads c → AgreesWithImages reads leaves c
+    → EachImage (leaves c.files.disk) (HoldsWith reads c (types_kept reads c))
 holds_left reads leaves c on agrees image left =
     let r = reads c.files.disk in
     holds_shown reads c on image (types_kept reads c) (each_shows c.files.transactions r (leaves c.files.disk) on.of_disk agrees.files image left)

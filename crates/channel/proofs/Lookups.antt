@@ -37,7 +37,8 @@ TellsGone reads rows id result = IsErrOf result (fault.Gone id) ↔ (lists (tabl
 pub told_gone : (reads : ℕ → List ℕ) (rows : FinMap nat_cmp Row) (id : ℕ) (result : Result ℕ ChannelFault) → get rows id ≡ None → result ≡ Err (fault.Gone id) → TellsGone reads rows id result
 told_gone reads rows id result none gone = (λ _. lists_row reads rows id ∙ ap (λ (o : Option Row). is_some o) none, λ _. gone)
 
-pub told_other : (reads : ℕ → List ℕ) (rows : FinMap nat_cmp Row) (id : ℕ) (row : Row) (result : Result ℕ ChannelFault) → get rows id ≡ Some row → result ≢ Err (fault.Gone id) → TellsGone reads rows id result
+pub told_other : (reads : ℕ → List ℕ) (rows : FinMap nat_cmp Row) (id : ℕ) (row : Row) (result : Result ℕ ChannelFault) → get rows id ≡ Some row → result ≢ Err (fault.Gone id)
+    → TellsGone reads rows id result
 told_other reads rows id row result some other =
     let listed : lists (table_in reads rows) id ≡ true = lists_row reads rows id ∙ ap (λ (o : Option Row). is_some o) some in
     (λ gone. absurd (other gone), λ lacks. absurd (false≢true (sym lacks ∙ listed)))

@@ -37,7 +37,8 @@ use Rattle.channel.proofs.Tables.{entity_of_table, entity_under, table_read_same
 one_state : (a b : State) → ◌≡◌ {A = Option State} (Some a) (Some b) → a ≡ b
 one_state a b e = cc
 
-module _ {D : Type 0} (tells : Bool) (reads : D → ℕ → List ℕ) (leaves : D → ℕ → List ℕ → Bool) (c : ChannelState D) (files : Channel D) (number next : ℕ) (rs : List Record) (result : Result Place FilesFault)
+module _ {D : Type 0} (tells : Bool) (reads : D → ℕ → List ℕ) (leaves : D → ℕ → List ℕ → Bool) (c : ChannelState D) (files : Channel D) (number next : ℕ) (rs : List Record)
+    (result : Result Place FilesFault)
     (on : IsOnDisk reads c) (part : IsPart rs) (stored : IsStored tells reads leaves c.files files number (chunk_for rs) next result) (told : IsTrue tells) (agrees : AgreesWithImages reads leaves c)
     (number_is : number ≡ last_part c + 1) (image : ℕ → List ℕ) (left : (file : ℕ) → IsTrue (leaves files.disk file (image file))) where
   abbrev old : ℕ → List ℕ
@@ -106,7 +107,8 @@ module _ {D : Type 0} (tells : Bool) (reads : D → ℕ → List ℕ) (leaves : 
           has.now.same id ∙ ap (λ (o : Option Occurrence). option_or o (table_of old (last_part c) id)) (last_in_chunk number place rs id part.entities part.ordered)
           ∙ ap (λ (o : Option Spot). option_or (option_map (occurrence_at place.file) o) (table_of old (last_part c) id)) at
 
-      given : (o : Option Spot) → spot_of place.at rs id ≡ o → entity_of (put_all rs (core_of reads c).table) id ≡ or_else (option_map (λ (s : Spot). s.of.entity) o) (entity_of (core_of reads c).table id)
+      given : (o : Option Spot) → spot_of place.at rs id ≡ o
+          → entity_of (put_all rs (core_of reads c).table) id ≡ or_else (option_map (λ (s : Spot). s.of.entity) o) (entity_of (core_of reads c).table id)
       given o at =
           entity_of_put_all rs (core_of reads c).table id
           ∙ ap (λ (o : Option Entity). or_else o (entity_of (core_of reads c).table id)) (entity_of_spot place.at rs id ∙ ap (λ (o : Option Spot). option_map (λ (s : Spot). s.of.entity) o) at)
@@ -144,7 +146,8 @@ holds_if reads c number next rs o image is (inr holds) = inr (subst (λ (o : Opt
 
 -- the channel still agrees with each image, where its own log does
 pub agrees_with : {D : Type 0} (reads : D → ℕ → List ℕ) (leaves : D → ℕ → List ℕ → Bool) (old new : ChannelState D) → AgreesWithImages reads leaves old → new.types ≡ old.types
-    → EachAsRead new.files.transactions (reads new.files.disk) (leaves new.files.disk) → FileStays 1 (reads old.files.disk) (reads new.files.disk) (leaves old.files.disk) (leaves new.files.disk) → AgreesWithImages reads leaves new
+    → EachAsRead new.files.transactions (reads new.files.disk) (leaves new.files.disk) → FileStays 1 (reads old.files.disk) (reads new.files.disk) (leaves old.files.disk)
+    (leaves new.files.disk) → AgreesWithImages reads leaves new
 agrees_with reads leaves old new agrees types files file_one = record {
   files = files;
   types =
@@ -157,7 +160,8 @@ pub for_some : {A : Type 0} (P : A → Type 0) (o : Option A) (a : A) → o ≡ 
 for_some P o a is holds = subst (λ o. IfSome o P) (sym is) holds
 
 -- after a refusal the channel stands for the same channel of the core
-pub core_refused : {D : Type 0} (tells : Bool) (reads : D → ℕ → List ℕ) (leaves : D → ℕ → List ℕ → Bool) (c : ChannelState D) (files : Channel D) (number next : ℕ) (rs : List Record) (result : Result Place FilesFault)
+pub core_refused : {D : Type 0} (tells : Bool) (reads : D → ℕ → List ℕ) (leaves : D → ℕ → List ℕ
+    → Bool) (c : ChannelState D) (files : Channel D) (number next : ℕ) (rs : List Record) (result : Result Place FilesFault)
     → IsOnDisk reads c → IsPart rs → IsStored tells reads leaves c.files files number (chunk_for rs) next result → IsTrue tells → AgreesWithImages reads leaves c → number ≡ last_part c + 1
     → ((file : ℕ) → IsTrue (leaves files.disk file (reads files.disk file))) → files.transactions.inventory.state.last ≡ last_part c → files.confirmed ≡ c.files.confirmed
     → core_of reads (record c { files = files }) ≡ core_of reads c

@@ -63,13 +63,14 @@ low_in (Some n) maximum has = ltb-true n maximum (not_false (nat_lt n maximum) h
 
 -- a chunk begins within the first GiB of its file
 pub place_low : (s : inventory.State) (maximum len : ℕ) → inventory.IsSound s → maximum ≤ 2 ^ 30 → (place_of (with_head s maximum len) len).at ≤ 2 ^ 30
-place_low s maximum len sound most = elim (len == 0) as (λ b. (if b then record { file = 0; at = 0 } else head_end (if b then s else (if lacks_room s maximum then with_new_head s else s))).at ≤ 2 ^ 30) [
-  | true ↦ omega arith
-  | false ↦ (elim (lacks_room s maximum) as (λ b. lacks_room s maximum ≡ b → (head_end (if b then with_new_head s else s)).at ≤ 2 ^ 30) [
-    | true ↦ λ lacks. omega (arith, new_head_length s sound)
-    | false ↦ λ has. omega (arith, low_in (length_of s.files s.created) maximum has)
-  ]) refl
-]
+place_low s maximum len sound most = elim (len == 0) as (λ b. (if b then record { file = 0; at = 0 } else head_end (if b then s else
+    (if lacks_room s maximum then with_new_head s else s))).at ≤ 2 ^ 30) [
+      | true ↦ omega arith
+      | false ↦ (elim (lacks_room s maximum) as (λ b. lacks_room s maximum ≡ b → (head_end (if b then with_new_head s else s)).at ≤ 2 ^ 30) [
+        | true ↦ λ lacks. omega (arith, new_head_length s sound)
+        | false ↦ λ has. omega (arith, low_in (length_of s.files s.created) maximum has)
+      ]) refl
+    ]
 
 -- ---- rows of a part
 
@@ -222,7 +223,8 @@ module _ {D : Type 0} (tells : Bool) (reads : D → ℕ → List ℕ) (leaves : 
   room_behind : (o : Option ℕ) → behind ≡ o → first ≡ None → Roomy new
   room_behind None is none = wrong_fault n (stored.not_full none is)
   room_behind (Some m) is none =
-      let full = subst (λ (o : Option ℕ). IfSome o (λ k. IsErr answer × IfErr answer (IsFaultOrFull (λ m. (m ≡ k) × (new.transactions.inventory.state ≡ with_new_head old.transactions.inventory.state))))) is (stored.full_behind none) in
+      let full = subst (λ (o : Option ℕ). IfSome o (λ k. IsErr answer × IfErr answer (IsFaultOrFull (λ m. (m ≡ k) ×
+      (new.transactions.inventory.state ≡ with_new_head old.transactions.inventory.state))))) is (stored.full_behind none) in
       room_with_head full.1.1
 
   room_at_first : (o : Option ℕ) → first ≡ o → Roomy new

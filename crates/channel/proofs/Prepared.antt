@@ -146,5 +146,6 @@ module _ {D : Type 0} (c : ChannelState D) (files : Channel D) (same : SameButSp
   }
 
   -- room for a part that is prepared now
-  pub room_new : (before : ℕ) → HasRoom c before → (part : List Record) (spare : ℕ) → length part ≤ spare → 2 ≤ files.transactions.inventory.spare → HasRoom (record c { files = files; prepared = Some part }) spare
+  pub room_new : (before : ℕ) → HasRoom c before → (part : List Record) (spare : ℕ) → length part ≤ spare → 2 ≤ files.transactions.inventory.spare → HasRoom
+      (record c { files = files; prepared = Some part }) spare
   room_new before room part spare fits two = record { rows = fits; files = λ ready unfailed lacks. omega (arith, two) }

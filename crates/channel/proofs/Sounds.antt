@@ -59,8 +59,8 @@ module _ {D : Type 0} (old : ChannelState D) (files : Channel D) (types : Option
   }
 
 -- a call that only read
-module _ {D : Type 0} (tells : Bool) (reads : D → ℕ → List ℕ) (old : ChannelState D) (files : Channel D) (ending : Ending) (failed : Bool) (was : IsSound tells reads old) (same : SameFiles old.files files)
-    (still : failed ≡ false → old.failed ≡ false) (read : IsTrue tells → reads files.disk ≡ reads old.files.disk) where
+module _ {D : Type 0} (tells : Bool) (reads : D → ℕ → List ℕ) (old : ChannelState D) (files : Channel D) (ending : Ending) (failed : Bool) (was : IsSound tells reads old)
+    (same : SameFiles old.files files) (still : failed ≡ false → old.failed ≡ false) (read : IsTrue tells → reads files.disk ≡ reads old.files.disk) where
   read_on_disk : IsTrue tells → failed ≡ false → IsOnDisk reads (called old files old.types ending failed old.tried)
   read_on_disk told sound =
       let there = was.on_disk told (still sound) in

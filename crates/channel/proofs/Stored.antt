@@ -50,8 +50,13 @@ stands_as reads number id row bytes whole is header =
     }
 
 -- a row stands as it did where the table says the same of its id
-stands_still : (old new : ℕ → List ℕ) (last number id : ℕ) (row : Row) → HasWholeChunks new → Stands old last id row → table_of new number id ≡ table_of old last id → StandsAs new number id row (bytes_at old row)
-stands_still old new last number id row whole stood same = record { stands = stands_again old new last number id row stood whole same; bytes_are = bytes_again old new last number id row stood whole same }
+stands_still : (old new : ℕ → List ℕ) (last number id : ℕ) (row : Row) → HasWholeChunks new → Stands old last id row → table_of new number id ≡ table_of old last id
+    → StandsAs new number id row (bytes_at old row)
+stands_still old new last number id row whole stood same = record {
+  stands = stands_again old new last number id row stood whole same;
+  bytes_are = bytes_again old new last number id row
+      stood whole same;
+}
 
 pub spot_right : (at : ℕ) (rs : List Record) (x : ℕ) (s : Spot) → AllByRecursion IsRightRecord rs → spot_of at rs x ≡ Some s → IsRightRecord s.of
 spot_right at [] x s all is = absurd cc
@@ -104,7 +109,8 @@ module _ (old new : ℕ → List ℕ) (last number : ℕ) (place : Place) (rs : 
       some_same a b e = cc
 
   -- at the number before, each row of before stands as it did
-  pub before_stands : IsSameTable (table_of old last) (table_of new (number - 1)) → (id : ℕ) (row : Row) → get new_rows id ≡ Some row → IfSome (row_before (map (slot_for rows) rs) id row) (Stands new (number - 1) id)
+  pub before_stands : IsSameTable (table_of old last) (table_of new (number - 1)) → (id : ℕ) (row : Row) → get new_rows id ≡ Some row
+      → IfSome (row_before (map (slot_for rows) rs) id row) (Stands new (number - 1) id)
   before_stands table_before id row is =
       subst (λ (o : Option Row). IfSome o (Stands new (number - 1) id)) (sym (before_of place.at rs rows id row part.ordered))
       ((elim (spot id) as (λ (o : Option Spot). spot id ≡ o → IfSome (cond (has id (ids rs)) (get rows id) (Some row)) (Stands new (number - 1) id)) [

@@ -1,6 +1,6 @@
 -- A type record that was to be kept on channel 0, and what is there after each answer.
-use Rattle.std.proofs.Common.{◌≡◌, ◌⊎◌, inl, inr, ℕ, ◌+◌, Bool, false, List, [], ◌∷◌, ◌++◌, length, take, drop, Option, Some, None, Result, Err, IsTrue, IfSome, IfErr, refl, sym, ap, subst, ◌∙◌, arith}
-use Rattle.std.specs.Prelude.{IsErrOf}
+use Rattle.std.proofs.Common.{◌≡◌, ◌⊎◌, inl, inr, ℕ, ◌+◌, Bool, false, List, [], ◌∷◌, ◌++◌, length, take, drop, Option, Some, None, Result, Err, IsTrue, IfSome, refl, sym, ap, subst, ◌∙◌, arith}
+use Rattle.std.specs.Prelude.{IfErr, IsErrOf}
 use Rattle.std.proofs.lemmas.List.{take-append-le, take_at}
 use Rattle.store_io.specs.Disk.{Only}
 use Rattle.store_io.specs.Whole.{EachImage, IsImage}
@@ -27,7 +27,7 @@ use Rattle.channel.specs.Core.{core_of, last_part, log_next_id, payloads_kept, t
 use Rattle.channel.specs.OnDisk.{AgreesWithImages, HoldsChannel, HoldsWith}
 use Rattle.channel.specs.Sound.{IsSound, HasRoom}
 use Rattle.channel.proofs.Images.{holds_shown, kept_in}
-use Rattle.channel.proofs.OnDisks.{core_still, on_disk_still}
+use Rattle.channel.proofs.OnDisks.{KeepsRows, core_still, on_disk_still}
 use Rattle.channel.proofs.Sounds.{SameFiles, called, keeps_rows, room_called, sound_called}
 
 -- the log with one record more, of so many bytes
@@ -35,7 +35,8 @@ abbrev pub log_with : LogState → ℕ → LogState
 log_with log size = record log { length = log.length + 5 + size; count = log.count + 1 }
 
 -- `Full` comes where the log takes no record, and leaves the disk
-pub full_stays : {A : Type 0} (P : Type 0) (r : Result A FilesFault) (number : ℕ) (o : Option ℕ) → IfSome o (λ n. IsErrOf r (files.Full n) × P) → (o ≡ None → IfErr r (λ e. e ≡ files.Fault)) → r ≡ Err (files.Full number) → P
+pub full_stays : {A : Type 0} (P : Type 0) (r : Result A FilesFault) (number : ℕ) (o : Option ℕ)
+    → IfSome o (λ n. IsErrOf r (files.Full n) × P) → (o ≡ None → IfErr r (λ e. e ≡ files.Fault)) → r ≡ Err (files.Full number) → P
 full_stays P r number (Some n) full not_full is = full.1
 full_stays {A} P r number None full not_full is = absurd (wrong number (subst (λ (r : Result A FilesFault). IfErr r (λ e. e ≡ files.Fault)) is (not_full refl)))
   where
@@ -55,87 +56,108 @@ pub kept_before : (payloads now : List (List ℕ)) (text : List ℕ) (count : �
 kept_before payloads now text count is (inl same) = ap (take count) same
 kept_before payloads now text count is (inr more) = ap (take count) more ∙ take-append-le count payloads (text ∷ []) (omega (arith, is))
 
--- the channel had not failed, and called its files
-module _ {D A : Type 0} (tells : Bool) (reads : D → ℕ → List ℕ) (leaves : D → ℕ → List ℕ → Bool) (old : ChannelState D) (was : IsSound tells reads old) (sound : old.failed ≡ false) (log : LogState)
-    (types_are : old.types ≡ Some log) (new : Channel D) (log_now : LogState) (text : List ℕ) (result : Result A FilesFault) (appended : IsAppended tells reads leaves old.files.disk new.disk log text result)
-    (stays : Stays tells reads leaves old.files new) where
+-- a channel that had not failed called its files, with this answer
+pub record TypeCall {D A : Type 0} (tells : Bool) (reads : D → ℕ → List ℕ) (leaves : D → ℕ → List ℕ → Bool)
+    (old : ChannelState D) (new : Channel D) (log log_now : LogState) (text : List ℕ) (result : Result A FilesFault) : Type 0 where
+  pub was : IsSound tells reads old
+  pub sound : old.failed ≡ false
+  pub types_are : old.types ≡ Some log
+  pub appended : IsAppended tells reads leaves old.files.disk new.disk log text result
+  pub stays : Stays tells reads leaves old.files new
+
+module _ {D A : Type 0} {tells : Bool} {reads : D → ℕ → List ℕ} {leaves : D → ℕ → List ℕ → Bool} {old : ChannelState D} {new : Channel D} {log log_now : LogState}
+    {text : List ℕ} {result : Result A FilesFault} (call : TypeCall tells reads leaves old new log log_now text result) where
   same_files : SameFiles old.files new
-  same_files = record { transactions = stays.transactions; sizes = stays.sizes; confirmed = stays.confirmed }
+  same_files = record { transactions = call.stays.transactions; sizes = call.stays.sizes; confirmed = call.stays.confirmed }
 
   -- ---- the channel
 
   module _ (ending : Ending) (failed : Bool) (tried : Option Tried) where
-    pub sound_typed : old.number ≡ 0 → log_now.file ≡ log.file → (IsTrue tells → failed ≡ false → IsOf log_now (reads new.disk 1)) → IsSound tells reads (called old new (Some log_now) ending failed tried)
+    keeps : IsTrue tells → KeepsRows reads old (called old new (Some log_now) ending failed tried)
+    keeps told = keeps_rows old new (Some log_now) ending failed tried reads same_files (call.stays.content told)
+
+    pub sound_typed : old.number ≡ 0 → log_now.file ≡ log.file → (IsTrue tells → failed ≡ false → IsOf log_now (reads new.disk 1))
+        → IsSound tells reads (called old new (Some log_now) ending failed tried)
     sound_typed on_0 file there =
-        sound_called old new (Some log_now) ending failed tried tells reads was same_files (λ _. refl, λ _. on_0)
-        (file ∙ subst (λ (o : Option LogState). IfSome o (λ log. log.file ≡ 1)) types_are was.types_file)
+        sound_called old new (Some log_now) ending failed tried tells reads call.was same_files (λ _. refl, λ _. on_0)
+        (file ∙ subst (λ (o : Option LogState). IfSome o (λ log. log.file ≡ 1)) call.types_are call.was.types_file)
         (λ told fine.
-        on_disk_still reads old (called old new (Some log_now) ending failed tried) (keeps_rows old new (Some log_now) ending failed tried reads same_files (stays.content told)) (was.on_disk told sound) (stays.of_disk told) (there told fine))
+        on_disk_still reads old (called old new (Some log_now) ending failed tried) (keeps told)
+        (call.was.on_disk told call.sound) (call.stays.of_disk told) (there told fine))
 
     pub room_typed : (spare : ℕ) → HasRoom old spare → HasRoom (called old new (Some log_now) ending failed tried) spare
-    room_typed spare room = room_called old new (Some log_now) ending failed tried spare room same_files (λ _. sound)
+    room_typed spare room = room_called old new (Some log_now) ending failed tried spare room same_files (λ _. call.sound)
 
     -- what the channel stands for stays
     pub core_typed : IsTrue tells → core_of reads (called old new (Some log_now) ending failed tried) ≡ core_of reads old
-    core_typed told =
-        core_still reads old (called old new (Some log_now) ending failed tried) (keeps_rows old new (Some log_now) ending failed tried reads same_files (stays.content told)) (was.on_disk told sound)
+    core_typed told = core_still reads old (called old new (Some log_now) ending failed tried) (keeps told) (call.was.on_disk told call.sound)
 
     -- each image agrees with what is read
     pub images_typed : IsTrue tells → AgreesWithImages reads leaves old → Each (leaves new.disk 1) (IsLogOf log_now.header (payloads_of (reads new.disk 1)))
         → AgreesWithImages reads leaves (called old new (Some log_now) ending failed tried)
-    images_typed told agrees types = record { files = stays.as_read told agrees.files; types = types }
+    images_typed told agrees types = record { files = call.stays.as_read told agrees.files; types = types }
 
   -- ---- the log of types
 
   log_of_disk : IsTrue tells → IsOf log (reads old.files.disk 1)
-  log_of_disk told = subst (λ (o : Option LogState). IfSome o (λ log. IsOf log (reads old.files.disk 1))) types_are (was.on_disk told sound).types
+  log_of_disk told = subst (λ (o : Option LogState). IfSome o (λ log. IsOf log (reads old.files.disk 1))) call.types_are (call.was.on_disk told call.sound).types
 
   log_images : AgreesWithImages reads leaves old → Each (leaves old.files.disk 1) (IsLogOf log.header (payloads_of (reads old.files.disk 1)))
-  log_images agrees = subst (λ (o : Option LogState). IfSome o (λ log. Each (leaves old.files.disk 1) (IsLogOf log.header (payloads_of (reads old.files.disk 1))))) types_are agrees.types
+  log_images agrees =
+      subst (λ (o : Option LogState). IfSome o (λ log. Each (leaves old.files.disk 1) (IsLogOf log.header (payloads_of (reads old.files.disk 1))))) call.types_are agrees.types
 
   kept_are : IsTrue tells → types_kept reads old ≡ payloads_of (reads old.files.disk 1)
-  kept_are told = ap (payloads_kept (reads old.files.disk 1)) types_are ∙ kept_in (Some log) (reads old.files.disk 1) (log_of_disk told)
+  kept_are told = ap (payloads_kept (reads old.files.disk 1)) call.types_are ∙ kept_in (Some log) (reads old.files.disk 1) (log_of_disk told)
 
   -- at `Full` nothing changed
   same_disk : (number : ℕ) → result ≡ Err (files.Full number) → new.disk ≡ old.files.disk
-  same_disk number is = full_stays (new.disk ≡ old.files.disk) result number (full_record log.length) appended.full appended.not_full is
+  same_disk number is = full_stays (new.disk ≡ old.files.disk) result number (full_record log.length) call.appended.full call.appended.not_full is
 
   pub log_at_full : (number : ℕ) → result ≡ Err (files.Full number) → log_now ≡ log → IsTrue tells → IsOf log_now (reads new.disk 1)
   log_at_full number is same told =
       subst (λ (l : LogState). IsOf l (reads new.disk 1)) (sym same) (subst (λ (d : D). IsOf log (reads d 1)) (sym (same_disk number is)) (log_of_disk told))
 
-  pub images_at_full : (number : ℕ) → result ≡ Err (files.Full number) → log_now ≡ log → AgreesWithImages reads leaves old → Each (leaves new.disk 1) (IsLogOf log_now.header (payloads_of (reads new.disk 1)))
+  pub images_at_full : (number : ℕ) → result ≡ Err (files.Full number) → log_now ≡ log → AgreesWithImages reads leaves old
+      → Each (leaves new.disk 1) (IsLogOf log_now.header (payloads_of (reads new.disk 1)))
   images_at_full number is same agrees =
       subst (λ (l : LogState). Each (leaves new.disk 1) (IsLogOf l.header (payloads_of (reads new.disk 1)))) (sym same)
       (subst (λ (d : D). Each (leaves d 1) (IsLogOf log.header (payloads_of (reads d 1)))) (sym (same_disk number is)) (log_images agrees))
 
   -- what the disk reads has the records of before, or these and the new one
-  pub not_kept : IsTrue tells → AgreesWithImages reads leaves old → IsTrue (leaves new.disk 1 (reads new.disk 1)) → log_now ≡ log → payloads_kept (reads new.disk 1) (Some log_now) ≡ types_kept reads old
+  pub not_kept : IsTrue tells → AgreesWithImages reads leaves old → IsTrue (leaves new.disk 1 (reads new.disk 1)) → log_now ≡ log
+      → payloads_kept (reads new.disk 1) (Some log_now) ≡ types_kept reads old
   not_kept told agrees left same =
       let before = payloads_of (reads old.files.disk 1) in
+      let with_or_not = before_or_after log.header before text (reads new.disk 1) (call.appended.stop told (log_images agrees) (reads new.disk 1) left) in
       ap (λ (l : LogState). payloads_kept (reads new.disk 1) (Some l)) same
-      ∙ kept_before before (payloads_of (reads new.disk 1)) text log.count (log_of_disk told).count (before_or_after log.header before text (reads new.disk 1) (appended.stop told (log_images agrees) (reads new.disk 1) left))
-      ∙ sym (ap (payloads_kept (reads old.files.disk 1)) types_are)
+      ∙ kept_before before (payloads_of (reads new.disk 1)) text log.count (log_of_disk told).count with_or_not
+      ∙ sym (ap (payloads_kept (reads old.files.disk 1)) call.types_are)
 
   -- ---- each image
 
-  shown_still : IsTrue tells → AgreesWithImages reads leaves old → EachImage (leaves new.disk) (Shows new.transactions.log.header (last_part old) (log_next_id old) 0 (content_of (reads old.files.disk)))
+  shown_still : IsTrue tells → AgreesWithImages reads leaves old
+      → EachImage (leaves new.disk) (Shows new.transactions.log.header (last_part old) (log_next_id old) 0 (content_of (reads old.files.disk)))
   shown_still told agrees image left =
-      let shown = each_shows new.transactions (reads new.disk) (leaves new.disk) (stays.of_disk told) (stays.as_read told agrees.files) image left in
-      subst (λ (l : List Chunk). Shows new.transactions.log.header (last_part old) (log_next_id old) 0 l image) (stays.content told)
-      (subst (λ (t : Transactions). Shows new.transactions.log.header t.inventory.state.last t.inventory.state.next_id 0 (content_of (reads new.disk)) image) stays.transactions shown)
+      let header = new.transactions.log.header in
+      let shown = each_shows new.transactions (reads new.disk) (leaves new.disk) (call.stays.of_disk told) (call.stays.as_read told agrees.files) image left in
+      subst (λ (l : List Chunk). Shows header (last_part old) (log_next_id old) 0 l image) (call.stays.content told)
+      (subst (λ (t : Transactions). Shows header t.inventory.state.last t.inventory.state.next_id 0 (content_of (reads new.disk)) image) call.stays.transactions shown)
 
-  holds_with : IsTrue tells → AgreesWithImages reads leaves old → (types : List (List ℕ)) (image : ℕ → List ℕ) → IsImage (leaves new.disk) image → IsLogOf log.header types (image 1) → HoldsWith reads old types image
+  holds_with : IsTrue tells → AgreesWithImages reads leaves old → (types : List (List ℕ)) (image : ℕ → List ℕ) → IsImage (leaves new.disk) image
+      → IsLogOf log.header types (image 1) → HoldsWith reads old types image
   holds_with told agrees types image left there =
-      holds_shown reads old (was.on_disk told sound) image types (shown_still told agrees image left) (subst (λ (o : Option LogState). IfSome o (λ log. IsLogOf log.header types (image 1))) (sym types_are) there)
+      holds_shown reads old (call.was.on_disk told call.sound) image types (shown_still told agrees image left)
+      (subst (λ (o : Option LogState). IfSome o (λ log. IsLogOf log.header types (image 1))) (sym call.types_are) there)
 
   -- each has what the channel stands for, and the record or not
-  pub stop_typed : IsTrue tells → AgreesWithImages reads leaves old → EachImage (leaves new.disk) (λ image. HoldsChannel reads old image ⊎ HoldsWith reads old (types_kept reads old ++ text ∷ []) image)
+  pub stop_typed : IsTrue tells → AgreesWithImages reads leaves old
+      → EachImage (leaves new.disk) (λ image. HoldsChannel reads old image ⊎ HoldsWith reads old (types_kept reads old ++ text ∷ []) image)
   stop_typed told agrees image left =
-      elim (appended.stop told (log_images agrees) (image 1) (left 1)) [
-        | inl without ↦ inl (holds_with told agrees (types_kept reads old) image left (subst (λ (l : List (List ℕ)). IsLogOf log.header l (image 1)) (sym (kept_are told)) without))
-        | inr with ↦
-            inr (holds_with told agrees (types_kept reads old ++ text ∷ []) image left (subst (λ (l : List (List ℕ)). IsLogOf log.header (l ++ text ∷ []) (image 1)) (sym (kept_are told)) with))
+      let kept = types_kept reads old in
+      let same = sym (kept_are told) in
+      elim (call.appended.stop told (log_images agrees) (image 1) (left 1)) [
+        | inl without ↦ inl (holds_with told agrees kept image left (subst (λ (l : List (List ℕ)). IsLogOf log.header l (image 1)) same without))
+        | inr with ↦ inr (holds_with told agrees (kept ++ text ∷ []) image left (subst (λ (l : List (List ℕ)). IsLogOf log.header (l ++ text ∷ []) (image 1)) same with))
       ]
 
 -- where a stop leaves what is read and nothing else, it leaves the log

@@ -18,10 +18,11 @@ pub invariant_of-self-in-Ok : goal.invariant_of-self-in-Ok
 invariant_of-self-in-Ok g c =
     let self = c.self.inside in
     let call = c.drop_store in
+    let was = c.self.invariant.0 in
     let none = subst (λ v. v.rows ≡ empty) (sym c.self.view_is) c.requires.empty in (
-      sound_dropped g.D.Disk.tells g.D.Disk.reads g.D.Disk.leaves _ c.self.invariant.0 c.if-self.false none call.new.self self.ending self.failed call.ensures.sizes (λ told fine. record {
+      sound_dropped g.D.Disk.leaves call.new.self was none self.ending self.failed c.if-self.false call.ensures.sizes (λ told fine. record {
         of_disk = c.in-Ok.ensures.dropped.of_disk told;
-        whole = c.in-Ok.ensures.whole_chunks told (c.self.invariant.0.on_disk told c.if-self.false).whole;
+        whole = c.in-Ok.ensures.whole_chunks told (was.on_disk told c.if-self.false).whole;
         types = call.ensures.types told;
       }),
       room_for_nothing _ _ (subst (λ v. v.prepared ≡ None) (sym c.self.view_is) c.requires.ready),
@@ -32,9 +33,10 @@ pub invariant_of-self-in-Err-Full : goal.invariant_of-self-in-Err-Full
 invariant_of-self-in-Err-Full g c =
     let call = c.drop_store in
     let new = c.note-in-Err-Full.new in
-    let full = c.in-Err-Full.is ∙ ap (λ f. Err f) c.in-Err-Full.field-0-is in
     let files = c.self.inside.files in
-    let nothing = full_stays (call.new.self ≡ files) call.result c.in-Err-Full.number (full_record files.transactions.log.length) call.ensures.dropped.full call.ensures.dropped.not_full full in
+    let dropped = call.ensures.dropped in
+    let full = c.in-Err-Full.is ∙ ap (λ f. Err f) c.in-Err-Full.field-0-is in
+    let nothing = full_stays (call.new.self ≡ files) call.result c.in-Err-Full.number (full_record files.transactions.log.length) dropped.full dropped.not_full full in
     let same = same_all files call.new.self nothing in
     let still = λ (e : new.failed ≡ false). sym c.note-in-Err-Full.ensures.failed ∙ e in (
       sound_read _ _ _ call.new.self new.ending new.failed c.self.invariant.0 same still (λ told. ap (λ files. g.D.Disk.reads files.disk) nothing),
@@ -48,8 +50,8 @@ invariant_of-self-in-Err-Fault g c =
     let new = c.note-in-Err-Fault.new in
     let none = subst (λ v. v.rows ≡ empty) (sym c.self.view_is) c.requires.empty in
     let is = c.note-in-Err-Fault.ensures.failed in (
-      sound_dropped g.D.Disk.tells g.D.Disk.reads g.D.Disk.leaves _ c.self.invariant.0 c.if-self.false none call.new.self new.ending new.failed call.ensures.sizes (λ told fine. absurd (false≢true (sym fine ∙ is))),
-      room_failed g.D.Disk.tells g.D.Disk.reads g.D.Disk.leaves _ c.self.invariant.0 c.if-self.false none call.new.self new.ending new.failed _ c.self.invariant.1 is,
+      sound_dropped g.D.Disk.leaves call.new.self c.self.invariant.0 none new.ending new.failed c.if-self.false call.ensures.sizes (λ told fine. absurd (false≢true (sym fine ∙ is))),
+      room_failed call.new.self new.ending new.failed c.self.invariant.1 is,
       c.self.invariant.2,
     )
 
@@ -57,18 +59,16 @@ pub returns-in-Ok-clause-images : goal.returns-in-Ok-clause-images
 returns-in-Ok-clause-images g c =
     let self = c.self.inside in
     let call = c.drop_store in
-    let none = subst (λ v. v.rows ≡ empty) (sym c.self.view_is) c.requires.empty in
     rw (← c.self.view_is) (λ told agrees.
-    images_dropped g.D.Disk.tells g.D.Disk.reads g.D.Disk.leaves _ c.self.invariant.0 c.if-self.false none call.new.self self.ending self.failed agrees (c.in-Ok.ensures.dropped.as_read told agrees.files) (call.ensures.types told))
+    images_dropped call.new.self self.ending self.failed agrees (c.in-Ok.ensures.dropped.as_read told agrees.files) (call.ensures.types told))
 
 pub returns-in-Err-Full-clause-images : goal.returns-in-Err-Full-clause-images
 returns-in-Err-Full-clause-images g c =
     let call = c.drop_store in
     let new = c.note-in-Err-Full.new in
-    let full = c.in-Err-Full.is ∙ ap (λ f. Err f) c.in-Err-Full.field-0-is in
     let files = c.self.inside.files in
-    let nothing = full_stays (call.new.self ≡ files) call.result c.in-Err-Full.number (full_record files.transactions.log.length) call.ensures.dropped.full call.ensures.dropped.not_full full in
-    let none = subst (λ v. v.rows ≡ empty) (sym c.self.view_is) c.requires.empty in
+    let dropped = call.ensures.dropped in
+    let full = c.in-Err-Full.is ∙ ap (λ f. Err f) c.in-Err-Full.field-0-is in
+    let nothing = full_stays (call.new.self ≡ files) call.result c.in-Err-Full.number (full_record files.transactions.log.length) dropped.full dropped.not_full full in
     rw (← c.self.view_is) (λ told agrees.
-    unless_full (Unit {0}) c.note-in-Err-Full.result c.in-Err-Full.number _ c.note-in-Err-Full.ensures.same
-    (images_same g.D.Disk.tells g.D.Disk.reads g.D.Disk.leaves _ c.self.invariant.0 c.if-self.false none call.new.self new.ending new.failed agrees nothing))
+    unless_full (Unit {0}) c.note-in-Err-Full.result c.in-Err-Full.number _ c.note-in-Err-Full.ensures.same (images_same call.new.self new.ending new.failed agrees nothing))

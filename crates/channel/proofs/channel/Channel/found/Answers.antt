@@ -19,12 +19,18 @@ invariant_of-self-2 g c =
     let live = subst (λ v. is_live v.files.transactions.inventory.state.files c.args.file ≡ true) (sym c.self.view_is) c.requires.live in
     let stands = subst (λ v. IsTrue g.D.Disk.tells → Stands (g.D.Disk.reads v.files.disk) (last_part v) id row) (sym c.self.view_is) c.requires.stands in
     let kept = c.reserve.ensures.rows in
-    let rows_are = c.put.ensures.rows ∙ ap (λ (rows : FinMap nat_cmp Row). insert rows id c.opened_at.result) kept ∙ ap (λ (row : Row). insert c.self.inside.index.contents id row) c.opened_at.ensures in
+    let contents = c.self.inside.index.contents in
+    let put_in = ap (λ (rows : FinMap nat_cmp Row). insert rows id c.opened_at.result) kept ∙ ap (λ (row : Row). insert contents id row) c.opened_at.ensures in
+    let rows_are = c.put.ensures.rows ∙ put_in in
     let due_is : c.in_ok-due.due ≡ c.ready.result + 1 = search rules in
-    let due_enough : c.in_ok-due.due ≤ c.reserve.new.self.spare = at_ok c.reserve.result (c.in_ok-due.due ≤ c.reserve.new.self.spare) (sym c.is_err.ensures.value ∙ c.if-is_err.false) c.reserve.ensures.room in
-    let enough = room_behind c.self.inside.prepared c.ready.result c.reserve.new.self.spare c.put.new.self.spare (get c.reserve.new.self.contents id) c.ready.ensures (omega (arith, due_is, due_enough))
-    (ap (λ (rows : FinMap nat_cmp Row). get rows id) kept ∙ new) c.put.ensures.spare in (
-      sound_found _ id row c.put.new.self.contents rows_are g.D.Disk.tells g.D.Disk.reads c.self.invariant.0 confirmed (record { live = live; id_is = c.requires.id_is; header = c.requires.right }) stands,
+    let before = c.reserve.new.self in
+    let not_err = sym c.is_err.ensures.value ∙ c.if-is_err.false in
+    let due_enough : c.in_ok-due.due ≤ before.spare = at_ok c.reserve.result (c.in_ok-due.due ≤ before.spare) not_err c.reserve.ensures.room in
+    let absent = ap (λ (rows : FinMap nat_cmp Row). get rows id) kept ∙ new in
+    let one_more : c.ready.result + 1 ≤ before.spare = omega (arith, due_is, due_enough) in
+    let enough = room_behind c.self.inside.prepared c.ready.result before.spare c.put.new.self.spare (get before.contents id) c.ready.ensures one_more absent c.put.ensures.spare in (
+      sound_found _ id row c.put.new.self.contents rows_are g.D.Disk.tells g.D.Disk.reads c.self.invariant.0 confirmed
+          (record { live = live; id_is = c.requires.id_is; header = c.requires.right }) stands,
       room_found _ id row c.put.new.self.contents rows_are _ c.put.new.self.spare c.self.invariant.1 enough,
       c.self.invariant.2,
     )

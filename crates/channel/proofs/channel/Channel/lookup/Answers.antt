@@ -104,20 +104,24 @@ returns-in_default-clause-gone g c =
 
 pub returns-then-self-clause-gone : goal.returns-then-self-clause-gone
 returns-then-self-clause-gone g c =
-    rw (← c.self.view_is)
-    (told_other (g.D.Disk.reads c.self.inside.files.disk) c.self.inside.index.contents c.args.id c.in-Some.field-0.now _ (sym c.in-Some.ensures) (fault_is_not c.note-then-self.result c.args.id c.note-then-self.ensures.same))
+    let reads = g.D.Disk.reads c.self.inside.files.disk in
+    let other = fault_is_not c.note-then-self.result c.args.id c.note-then-self.ensures.same in
+    rw (← c.self.view_is) (told_other reads c.self.inside.index.contents c.args.id c.in-Some.field-0.now _ (sym c.in-Some.ensures) other)
 
 pub returns-in-Ok-clause-gone : goal.returns-in-Ok-clause-gone
 returns-in-Ok-clause-gone g c =
-    rw (← c.self.view_is)
-    (told_other (g.D.Disk.reads c.self.inside.files.disk) c.self.inside.index.contents c.args.id c.in-Some.field-0.now _ (sym c.in-Some.ensures) (ok_is_not c.in-Some.field-0.now.header.length c.args.id))
+    let reads = g.D.Disk.reads c.self.inside.files.disk in
+    let other = ok_is_not c.in-Some.field-0.now.header.length c.args.id in
+    rw (← c.self.view_is) (told_other reads c.self.inside.index.contents c.args.id c.in-Some.field-0.now _ (sym c.in-Some.ensures) other)
 
 pub returns-in-Err-Fault-clause-gone : goal.returns-in-Err-Fault-clause-gone
 returns-in-Err-Fault-clause-gone g c =
-    rw (← c.self.view_is)
-    (told_other (g.D.Disk.reads c.self.inside.files.disk) c.self.inside.index.contents c.args.id c.in-Some.field-0.now _ (sym c.in-Some.ensures) (fault_is_not c.note-in-Err-Fault.result c.args.id c.note-in-Err-Fault.ensures.same))
+    let reads = g.D.Disk.reads c.self.inside.files.disk in
+    let other = fault_is_not c.note-in-Err-Fault.result c.args.id c.note-in-Err-Fault.ensures.same in
+    rw (← c.self.view_is) (told_other reads c.self.inside.index.contents c.args.id c.in-Some.field-0.now _ (sym c.in-Some.ensures) other)
 
 pub returns-in-Err-Changed-clause-gone : goal.returns-in-Err-Changed-clause-gone
 returns-in-Err-Changed-clause-gone g c =
-    rw (← c.self.view_is)
-    (told_other (g.D.Disk.reads c.self.inside.files.disk) c.self.inside.index.contents c.args.id c.in-Some.field-0.now _ (sym c.in-Some.ensures) (changed_is_not c.note-in-Err-Changed.result c.args.id c.note-in-Err-Changed.ensures.same))
+    let reads = g.D.Disk.reads c.self.inside.files.disk in
+    let other = changed_is_not c.note-in-Err-Changed.result c.args.id c.note-in-Err-Changed.ensures.same in
+    rw (← c.self.view_is) (told_other reads c.self.inside.index.contents c.args.id c.in-Some.field-0.now _ (sym c.in-Some.ensures) other)

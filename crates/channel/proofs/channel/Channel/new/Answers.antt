@@ -1,8 +1,7 @@
 -- No id has a row, and the disk reads as the log that was opened.
-use Rattle.std.proofs.Common.{◌≡◌, ◌<◌, ◌≤◌, ◌↔◌, ℕ, Bool, false, List, Option, Some, None, IsTrue, IsSome, IfSome, refl, sym, subst, ◌∙◌}
-use Rattle.std.proofs.lemmas.Bool.{false≢true}
+use Rattle.std.proofs.Common.{◌≡◌, ◌<◌, ◌≤◌, ◌↔◌, ℕ, Bool, false, List, Option, None, IsTrue, IsSome, IfSome, refl, sym, subst}
 use Rattle.std.specs.Ordering.{nat_cmp}
-use Rattle.std.specs.FinMap.{FinMap, empty, get, get-empty}
+use Rattle.std.specs.FinMap.{FinMap, empty}
 use Rattle.gated_log.specs.State.{LogState}
 use Rattle.gated_log.specs.Of.{IsOf}
 use Rattle.core_steps.specs.declared.unit.Ending.TheVariants.{Sound}
@@ -13,14 +12,10 @@ use Rattle.channel_files.specs.Whole.{HasWholeChunks}
 use Rattle.entity_index.specs.declared.row.Row.{Row}
 use Rattle.channel.specs.declared.part.Slot.{Slot}
 use Rattle.channel.specs.State.{ChannelState}
-use Rattle.channel.specs.Sound.{IsSound, HasRoom}
+use Rattle.channel.specs.Sound.{IsSound}
+use Rattle.channel.proofs.Prepared.{room_for_nothing}
+use Rattle.channel.proofs.Dropped.{no_row}
 use Rattle.channel.proofs.channel.Channel.new.Goals as goal
-
-no_row : (id : ℕ) (row : Row) → get (empty {R = nat_cmp}) id ≡ Some row → ⊥
-no_row id row is = apart row (sym (get-empty nat_cmp id) ∙ is)
-  where
-    apart : (row : Row) → ◌≡◌ {A = Option Row} None (Some row) → ⊥
-    apart row e = cc
 
 -- a channel that was just made, over these files
 abbrev made : {D : Type 0} → ℕ → ℕ → Channel D → Option LogState → FinMap nat_cmp Row → List Slot → ChannelState D
@@ -48,13 +43,13 @@ module _ {D : Type 0} (tells : Bool) (reads : D → ℕ → List ℕ) (number co
     number = number_is;
     channels = channels;
     sizes = in_range;
-    rows = λ id row is. absurd (no_row id row is);
+    rows = λ id row is. absurd (no_row empty id row refl is);
     types = on_channel_0;
     types_file = types_file;
     on_disk = λ told sound. record {
       of_disk = of_disk told;
       whole = whole told;
-      rows = λ id row is. absurd (no_row id row is);
+      rows = λ id row is. absurd (no_row empty id row refl is);
       before = λ unconfirmed. absurd (unconfirmed refl);
       types = types_of_disk told;
     };
@@ -65,15 +60,15 @@ module _ {D : Type 0} (tells : Bool) (reads : D → ℕ → List ℕ) (number co
       subst (λ (files : Channel D). IsSound tells reads (made number count files types rows replaced)) (sym files_is)
       (subst (λ (rows : FinMap nat_cmp Row). IsSound tells reads (made number count (opened disk log sizes) types rows replaced)) (sym rows_is) made_sound)
 
--- nothing is prepared
-room_for_nothing : {D : Type 0} (number count : ℕ) (files : Channel D) (types : Option LogState) (rows : FinMap nat_cmp Row) (replaced : List Slot) (spare : ℕ) → HasRoom (made number count files types rows replaced) spare
-room_for_nothing number count files types rows replaced spare = record { rows = tt; files = λ some. absurd (false≢true some) }
-
 pub invariant_of-result : goal.invariant_of-result
 invariant_of-result g c =
-    let requires = c.requires in (
-      sound_over g.D.Disk.tells g.D.Disk.reads c.args.number c.args.count c.args.disk c.args.log c.args.sizes c.args.types c.new-3.result.items requires.number requires.channels requires.sizes requires.on_channel_0
-          requires.types_file requires.of_disk requires.whole requires.types_of_disk c.new.result c.new-2.result.contents c.new.ensures.value c.new-2.ensures.rows,
-      room_for_nothing c.args.number c.args.count c.new.result c.args.types c.new-2.result.contents c.new-3.result.items c.new-2.result.spare,
+    let args = c.args in
+    let requires = c.requires in
+    let rows = c.new-2.result.contents in
+    let replaced = c.new-3.result.items in (
+      sound_over g.D.Disk.tells g.D.Disk.reads args.number args.count args.disk args.log args.sizes args.types replaced
+          requires.number requires.channels requires.sizes requires.on_channel_0 requires.types_file requires.of_disk requires.whole requires.types_of_disk
+          c.new.result rows c.new.ensures.value c.new-2.ensures.rows,
+      room_for_nothing (made args.number args.count c.new.result args.types rows replaced) c.new-2.result.spare refl,
       c.in-Ok.ensures,
     )

@@ -30,10 +30,12 @@ invariant_of-self-in-Ok g c =
     let files = c.store_chunk.new.self in
     let bytes : c.chunk.result.now ≡ chunk_for rs = search rules in
     let part : IsPart rs = search rules in
-    let stored = subst (λ (b : List ℕ). IsStored g.D.Disk.tells g.D.Disk.reads g.D.Disk.leaves c.self.inside.files files c.args.number b c.args.next_id (Ok c.in-Ok.place)) bytes c.in-Ok.ensures.stored in
+    let stored = subst (λ (b : List ℕ). IsStored g.D.Disk.tells g.D.Disk.reads g.D.Disk.leaves c.self.inside.files files c.args.number b c.args.next_id
+    (Ok c.in-Ok.place)) bytes c.in-Ok.ensures.stored in
     let place_live = λ (some : 0 < length (chunk_for rs)). c.in-Ok.ensures.place_live (subst (λ (b : List ℕ). 0 < length b) (sym bytes) some) in (
       rw (c.put_rows.ensures.rows, c.put_rows.ensures.slots, c.take.ensures.after)
-          (sound_stored g.D.Disk.tells g.D.Disk.reads g.D.Disk.leaves _ files c.args.number c.args.next_id rs c.self.invariant.0 c.store_chunk.ensures.sizes c.store_chunk.ensures.unconfirmed c.store_chunk.ensures.live
+          (sound_stored g.D.Disk.tells g.D.Disk.reads g.D.Disk.leaves _ files c.args.number c.args.next_id rs c.self.invariant.0 c.store_chunk.ensures.sizes
+          c.store_chunk.ensures.unconfirmed c.store_chunk.ensures.live
           c.store_chunk.ensures.types c.in-Ok.place part stored c.in-Ok.ensures.whole_chunks place_live),
       room_for_nothing _ _ c.take.ensures.after,
       c.self.invariant.2,
@@ -47,9 +49,12 @@ invariant_of-self-in-Err-Full g c =
     let new = c.note-in-Err-Full.new in
     let ensures = c.in-Err-Full.ensures in
     let sound : IsSoundInventory c.self.inside.files.transactions.inventory.state = search rules in
-    let stored = subst (λ (b : List ℕ). IsStored g.D.Disk.tells g.D.Disk.reads g.D.Disk.leaves c.self.inside.files files c.args.number b c.args.next_id (Err fault)) c.chunk.ensures.bytes ensures.stored in
-    let full = subst (λ (f : FilesFault). IsStored g.D.Disk.tells g.D.Disk.reads g.D.Disk.leaves c.self.inside.files files c.args.number (chunk_for rs) c.args.next_id (Err f)) c.in-Err-Full.field-0-is stored in (
-      sound_full g.D.Disk.tells g.D.Disk.reads g.D.Disk.leaves _ files c.args.number c.args.next_id rs c.self.invariant.0 c.store_chunk.ensures.sizes c.store_chunk.ensures.unconfirmed c.store_chunk.ensures.live
+    let stored = subst (λ (b : List ℕ). IsStored g.D.Disk.tells g.D.Disk.reads g.D.Disk.leaves c.self.inside.files files c.args.number b c.args.next_id
+    (Err fault)) c.chunk.ensures.bytes ensures.stored in
+    let full = subst (λ (f : FilesFault). IsStored g.D.Disk.tells g.D.Disk.reads g.D.Disk.leaves c.self.inside.files files c.args.number (chunk_for rs) c.args.next_id
+    (Err f)) c.in-Err-Full.field-0-is stored in (
+      sound_full g.D.Disk.tells g.D.Disk.reads g.D.Disk.leaves _ files c.args.number c.args.next_id rs c.self.invariant.0 c.store_chunk.ensures.sizes c.store_chunk.ensures.unconfirmed
+          c.store_chunk.ensures.live
           c.store_chunk.ensures.types fault stored new.ending new.failed _ ensures.whole_chunks ensures.numbers.0 c.in-Err-Full.full c.in-Err-Full.field-0-is (λ e. c.if-self.false),
       record {
         rows = c.self.invariant.1.rows;
@@ -68,8 +73,10 @@ invariant_of-self-in-Err-Fault g c =
     let new = c.note-in-Err-Fault.new in
     let ensures = c.in-Err-Fault.ensures in
     let fails = λ (e : new.failed ≡ false). false≢true (sym e ∙ c.note-in-Err-Fault.ensures.failed) in
-    let stored = subst (λ (b : List ℕ). IsStored g.D.Disk.tells g.D.Disk.reads g.D.Disk.leaves c.self.inside.files files c.args.number b c.args.next_id (Err fault)) c.chunk.ensures.bytes ensures.stored in (
-      sound_refused_part g.D.Disk.tells g.D.Disk.reads g.D.Disk.leaves _ files c.args.number c.args.next_id rs c.self.invariant.0 c.store_chunk.ensures.sizes c.store_chunk.ensures.unconfirmed c.store_chunk.ensures.live
+    let stored = subst (λ (b : List ℕ). IsStored g.D.Disk.tells g.D.Disk.reads g.D.Disk.leaves c.self.inside.files files c.args.number b c.args.next_id
+    (Err fault)) c.chunk.ensures.bytes ensures.stored in (
+      sound_refused_part g.D.Disk.tells g.D.Disk.reads g.D.Disk.leaves _ files c.args.number c.args.next_id rs c.self.invariant.0 c.store_chunk.ensures.sizes
+          c.store_chunk.ensures.unconfirmed c.store_chunk.ensures.live
           c.store_chunk.ensures.types fault stored new.ending new.failed _ ensures.whole_chunks ensures.numbers.0 (λ told e. absurd (fails e)),
       record { rows = c.self.invariant.1.rows; files = λ ready e. absurd (fails e) },
       c.self.invariant.2,
@@ -92,7 +99,8 @@ returns-in-Some-take-clause-event g c =
     let part : IsPart rs = search rules in
     let is : c.self.inside.prepared ≡ Some rs = search rules in
     let is_now : now.prepared ≡ Some rs = sym (ap (λ (s : ChannelState g.row.D.Denot). s.prepared) c.self.view_is) ∙ is in
-    let stored = subst (λ (b : List ℕ). IsStored g.D.Disk.tells g.D.Disk.reads g.D.Disk.leaves c.self.inside.files files c.args.number b c.args.next_id (Ok c.in-Ok.place)) bytes c.in-Ok.ensures.stored in
+    let stored = subst (λ (b : List ℕ). IsStored g.D.Disk.tells g.D.Disk.reads g.D.Disk.leaves c.self.inside.files files c.args.number b c.args.next_id
+    (Ok c.in-Ok.place)) bytes c.in-Ok.ensures.stored in
     let place_live = λ (some : 0 < length (chunk_for rs)). c.in-Ok.ensures.place_live (subst (λ (b : List ℕ). 0 < length b) (sym bytes) some) in
     let may_now : MayTake (place_with now rs) (core_of g.D.Disk.reads now) c.args.hand.now c.args.number = record {
       idle = refl;
@@ -108,7 +116,8 @@ returns-in-Some-take-clause-event g c =
     for_some _ _ rs is
     (part_event _ _ c.args.hand.now c.args.number may _ _
     (rw c.put_rows.ensures.rows
-    (core_stored g.D.Disk.tells g.D.Disk.reads g.D.Disk.leaves _ files c.args.number c.args.next_id rs c.self.invariant.0 c.store_chunk.ensures.sizes c.store_chunk.ensures.unconfirmed c.store_chunk.ensures.live
+    (core_stored g.D.Disk.tells g.D.Disk.reads g.D.Disk.leaves _ files c.args.number c.args.next_id rs c.self.invariant.0 c.store_chunk.ensures.sizes c.store_chunk.ensures.unconfirmed
+    c.store_chunk.ensures.live
     c.store_chunk.ensures.types c.in-Ok.place part stored c.in-Ok.ensures.whole_chunks place_live told c.if-self.false))
     c.give_part.ensures))
 
@@ -119,10 +128,12 @@ returns-in-Some-take-clause-stop g c =
     let rs = c.in-Some.part in
     let is : c.self.inside.prepared ≡ Some rs = search rules in
     let next = subst (λ (s : ChannelState g.row.D.Denot). c.args.number ≡ last_part s + 1) (sym c.self.view_is) c.requires.number in
-    let stored = subst (λ (b : List ℕ). IsStored g.D.Disk.tells g.D.Disk.reads g.D.Disk.leaves c.self.inside.files c.store_chunk.new.self c.args.number b c.args.next_id c.store_chunk.result) c.chunk.ensures.bytes c.store_chunk.ensures.stored in
+    let stored = subst (λ (b : List ℕ). IsStored g.D.Disk.tells g.D.Disk.reads g.D.Disk.leaves c.self.inside.files c.store_chunk.new.self c.args.number b c.args.next_id
+    c.store_chunk.result) c.chunk.ensures.bytes c.store_chunk.ensures.stored in
     rw (← c.self.view_is) (λ told unfailed agrees image left.
     holds_if g.D.Disk.reads _ c.args.number c.args.next_id rs _ image is
-    (holds_either g.D.Disk.tells g.D.Disk.reads g.D.Disk.leaves _ c.store_chunk.new.self c.args.number c.args.next_id rs c.store_chunk.result (c.self.invariant.0.on_disk told c.if-self.false) c.chunk.ensures.part stored told agrees
+    (holds_either g.D.Disk.tells g.D.Disk.reads g.D.Disk.leaves _ c.store_chunk.new.self c.args.number c.args.next_id rs c.store_chunk.result
+    (c.self.invariant.0.on_disk told c.if-self.false) c.chunk.ensures.part stored told agrees
     next image left (c.store_chunk.ensures.types told)))
 
 pub returns-in-Err-Full-clause-stop : goal.returns-in-Err-Full-clause-stop
@@ -130,10 +141,12 @@ returns-in-Err-Full-clause-stop g c =
     let rs = c.in-Some.part in
     let is : c.self.inside.prepared ≡ Some rs = search rules in
     let next = subst (λ (s : ChannelState g.row.D.Denot). c.args.number ≡ last_part s + 1) (sym c.self.view_is) c.requires.number in
-    let stored = subst (λ (b : List ℕ). IsStored g.D.Disk.tells g.D.Disk.reads g.D.Disk.leaves c.self.inside.files c.store_chunk.new.self c.args.number b c.args.next_id c.store_chunk.result) c.chunk.ensures.bytes c.store_chunk.ensures.stored in
+    let stored = subst (λ (b : List ℕ). IsStored g.D.Disk.tells g.D.Disk.reads g.D.Disk.leaves c.self.inside.files c.store_chunk.new.self c.args.number b c.args.next_id
+    c.store_chunk.result) c.chunk.ensures.bytes c.store_chunk.ensures.stored in
     rw (← c.self.view_is) (λ told unfailed agrees image left.
     holds_if g.D.Disk.reads _ c.args.number c.args.next_id rs _ image is
-    (holds_either g.D.Disk.tells g.D.Disk.reads g.D.Disk.leaves _ c.store_chunk.new.self c.args.number c.args.next_id rs c.store_chunk.result (c.self.invariant.0.on_disk told c.if-self.false) c.chunk.ensures.part stored told agrees
+    (holds_either g.D.Disk.tells g.D.Disk.reads g.D.Disk.leaves _ c.store_chunk.new.self c.args.number c.args.next_id rs c.store_chunk.result
+    (c.self.invariant.0.on_disk told c.if-self.false) c.chunk.ensures.part stored told agrees
     next image left (c.store_chunk.ensures.types told)))
 
 pub returns-in-Err-Fault-clause-stop : goal.returns-in-Err-Fault-clause-stop
@@ -141,10 +154,12 @@ returns-in-Err-Fault-clause-stop g c =
     let rs = c.in-Some.part in
     let is : c.self.inside.prepared ≡ Some rs = search rules in
     let next = subst (λ (s : ChannelState g.row.D.Denot). c.args.number ≡ last_part s + 1) (sym c.self.view_is) c.requires.number in
-    let stored = subst (λ (b : List ℕ). IsStored g.D.Disk.tells g.D.Disk.reads g.D.Disk.leaves c.self.inside.files c.store_chunk.new.self c.args.number b c.args.next_id c.store_chunk.result) c.chunk.ensures.bytes c.store_chunk.ensures.stored in
+    let stored = subst (λ (b : List ℕ). IsStored g.D.Disk.tells g.D.Disk.reads g.D.Disk.leaves c.self.inside.files c.store_chunk.new.self c.args.number b c.args.next_id
+    c.store_chunk.result) c.chunk.ensures.bytes c.store_chunk.ensures.stored in
     rw (← c.self.view_is) (λ told unfailed agrees image left.
     holds_if g.D.Disk.reads _ c.args.number c.args.next_id rs _ image is
-    (holds_either g.D.Disk.tells g.D.Disk.reads g.D.Disk.leaves _ c.store_chunk.new.self c.args.number c.args.next_id rs c.store_chunk.result (c.self.invariant.0.on_disk told c.if-self.false) c.chunk.ensures.part stored told agrees
+    (holds_either g.D.Disk.tells g.D.Disk.reads g.D.Disk.leaves _ c.store_chunk.new.self c.args.number c.args.next_id rs c.store_chunk.result
+    (c.self.invariant.0.on_disk told c.if-self.false) c.chunk.ensures.part stored told agrees
     next image left (c.store_chunk.ensures.types told)))
 
 pub returns-in-Some-take-clause-images : goal.returns-in-Some-take-clause-images
@@ -153,9 +168,11 @@ returns-in-Some-take-clause-images g c =
 
 pub returns-in-Err-Full-clause-images : goal.returns-in-Err-Full-clause-images
 returns-in-Err-Full-clause-images g c =
-    let full = subst (λ (f : FilesFault). IsStored g.D.Disk.tells g.D.Disk.reads g.D.Disk.leaves c.self.inside.files c.store_chunk.new.self c.args.number c.chunk.result.now c.args.next_id (Err f)) c.in-Err-Full.field-0-is
+    let full = subst (λ (f : FilesFault). IsStored g.D.Disk.tells g.D.Disk.reads g.D.Disk.leaves c.self.inside.files c.store_chunk.new.self c.args.number c.chunk.result.now
+    c.args.next_id (Err f)) c.in-Err-Full.field-0-is
     c.in-Err-Full.ensures.stored in
-    rw (← c.self.view_is, c.note-in-Err-Full.ensures.same) (λ told agrees. agrees_with g.D.Disk.reads g.D.Disk.leaves _ _ agrees refl (full.as_read told agrees.files) (c.store_chunk.ensures.types told))
+    rw (← c.self.view_is, c.note-in-Err-Full.ensures.same) (λ told agrees. agrees_with g.D.Disk.reads g.D.Disk.leaves _ _ agrees refl (full.as_read told agrees.files)
+    (c.store_chunk.ensures.types told))
 
 -- ---- a refusal is no event
 
@@ -164,9 +181,11 @@ returns-in-Err-Full-clause-no_event g c =
     let rs = c.in-Some.part in
     let files = c.store_chunk.new.self in
     let next = subst (λ (s : ChannelState g.row.D.Denot). c.args.number ≡ last_part s + 1) (sym c.self.view_is) c.requires.number in
-    let stored = subst (λ (b : List ℕ). IsStored g.D.Disk.tells g.D.Disk.reads g.D.Disk.leaves c.self.inside.files files c.args.number b c.args.next_id c.store_chunk.result) c.chunk.ensures.bytes c.store_chunk.ensures.stored in
+    let stored = subst (λ (b : List ℕ). IsStored g.D.Disk.tells g.D.Disk.reads g.D.Disk.leaves c.self.inside.files files c.args.number b c.args.next_id c.store_chunk.result)
+    c.chunk.ensures.bytes c.store_chunk.ensures.stored in
     rw (← c.self.view_is) (λ told agrees.
-    core_refused g.D.Disk.tells g.D.Disk.reads g.D.Disk.leaves _ files c.args.number c.args.next_id rs c.store_chunk.result (c.self.invariant.0.on_disk told c.if-self.false) c.chunk.ensures.part stored told agrees next
+    core_refused g.D.Disk.tells g.D.Disk.reads g.D.Disk.leaves _ files c.args.number c.args.next_id rs c.store_chunk.result
+    (c.self.invariant.0.on_disk told c.if-self.false) c.chunk.ensures.part stored told agrees next
     (λ f. g.met.D.Disk.reads_left files.disk f told) c.in-Err-Full.ensures.numbers.0 c.store_chunk.ensures.unconfirmed)
 
 pub returns-in-Err-Fault-clause-no_event : goal.returns-in-Err-Fault-clause-no_event
@@ -174,7 +193,9 @@ returns-in-Err-Fault-clause-no_event g c =
     let rs = c.in-Some.part in
     let files = c.store_chunk.new.self in
     let next = subst (λ (s : ChannelState g.row.D.Denot). c.args.number ≡ last_part s + 1) (sym c.self.view_is) c.requires.number in
-    let stored = subst (λ (b : List ℕ). IsStored g.D.Disk.tells g.D.Disk.reads g.D.Disk.leaves c.self.inside.files files c.args.number b c.args.next_id c.store_chunk.result) c.chunk.ensures.bytes c.store_chunk.ensures.stored in
+    let stored = subst (λ (b : List ℕ). IsStored g.D.Disk.tells g.D.Disk.reads g.D.Disk.leaves c.self.inside.files files c.args.number b c.args.next_id c.store_chunk.result)
+    c.chunk.ensures.bytes c.store_chunk.ensures.stored in
     rw (← c.self.view_is) (λ told agrees.
-    core_refused g.D.Disk.tells g.D.Disk.reads g.D.Disk.leaves _ files c.args.number c.args.next_id rs c.store_chunk.result (c.self.invariant.0.on_disk told c.if-self.false) c.chunk.ensures.part stored told agrees next
+    core_refused g.D.Disk.tells g.D.Disk.reads g.D.Disk.leaves _ files c.args.number c.args.next_id rs c.store_chunk.result
+    (c.self.invariant.0.on_disk told c.if-self.false) c.chunk.ensures.part stored told agrees next
     (λ f. g.met.D.Disk.reads_left files.disk f told) c.in-Err-Fault.ensures.numbers.0 c.store_chunk.ensures.unconfirmed)
