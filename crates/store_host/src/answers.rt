@@ -64,6 +64,11 @@ impl<'a> Answers<'a> {
         self.refused
     }
 
+    /// The number of the first of them.
+    pub(crate) fn first_line(&self) -> Option<u64> {
+        self.first.line()
+    }
+
     pub(crate) fn code(&self) -> &[u8] {
         self.code.as_slice()
     }

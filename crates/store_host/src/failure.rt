@@ -6,7 +6,7 @@ use thiserror::Error;
 
 /// What was to be done.
 #[derive(Clone, Copy, Debug, PartialEq, Eq, Drop)]
-pub enum Action {
+pub(crate) enum Action {
     Make,
     Open,
     Lock,
@@ -71,7 +71,7 @@ fn done(action: Action) -> &'static str {
 }
 
 /// Plain words for the reasons that a user can mend.
-pub(crate) fn plain_words(kind: ErrorKind) -> &'static str {
+fn plain_words(kind: ErrorKind) -> &'static str {
     match kind {
         ErrorKind::PermissionDenied => "no permission: ",
         ErrorKind::NotADirectory | ErrorKind::AlreadyExists => "a file is in the way: ",
@@ -100,6 +100,34 @@ impl fmt::Display for Failure {
                 self.reason
             ),
         }
+    }
+}
+
+/// Why a standard stream failed.
+#[derive(Clone, Copy)]
+pub struct StreamFailure {
+    reason: io::Error,
+}
+
+impl StreamFailure {
+    pub(crate) fn new(reason: io::Error) -> StreamFailure {
+        StreamFailure { reason }
+    }
+}
+
+/// The system's number for a call on a number without a file.
+const NO_FILE: i32 = 9;
+
+impl fmt::Display for StreamFailure {
+    fn fmt<W: fmt::Write>(&self, f: &mut fmt::Formatter<W>) -> fmt::Result {
+        let words = match (self.reason.kind(), self.reason.raw_os_error()) {
+            (_, Some(NO_FILE)) => "it is closed: ",
+            // A closed standard input is held as a folder.
+            (ErrorKind::IsADirectory, _) => "it is closed, or a folder: ",
+            (ErrorKind::BrokenPipe, _) => "nobody reads it: ",
+            (kind, _) => plain_words(kind),
+        };
+        write!(f, "{words}{}", self.reason)
     }
 }
 

@@ -15,16 +15,16 @@ pub(crate) struct KeptLines<'a> {
     before: u64,
 }
 
-/// The line with this index, and whether it is whole.
-fn line_at(bytes: &[u8], index: u64) -> Option<(&[u8], bool)> {
+/// The line with this index.
+fn line_at(bytes: &[u8], index: u64) -> Option<&[u8]> {
     let mut rest = bytes;
     for _ in 0..index {
         let end = rest.iter().position(|byte| *byte == b'\n')?;
         rest = &rest[end + 1..];
     }
     match rest.iter().position(|byte| *byte == b'\n') {
-        Some(end) => Some((&rest[..end], true)),
-        None => Some((rest, rest.len() < MOST_KEPT)),
+        Some(end) => Some(&rest[..end]),
+        None => Some(rest),
     }
 }
 
@@ -57,12 +57,15 @@ impl<'a> KeptLines<'a> {
         let _ = self.bytes.extend_from_slice(piece);
     }
 
-    /// The first line that was refused, and whether it is whole.
+    /// The first line that was refused, as far as it is kept, and whether that is all of it.
     pub(crate) fn first_refused(&self) -> Option<(&[u8], bool)> {
         let number = self.first.line()?;
-        line_at(
-            &self.bytes,
-            number.checked_sub(self.before)?.checked_sub(1)?,
-        )
+        let index = number.checked_sub(self.before)?.checked_sub(1)?;
+        let line = line_at(&self.bytes, index)?;
+        if line.len() < MOST_KEPT {
+            Some((line, true))
+        } else {
+            Some((&line[..MOST_KEPT], false))
+        }
     }
 }

@@ -14,7 +14,7 @@ mod streams;
 mod tally;
 
 pub use answers::FirstRefusal;
-pub use failure::{Action, Failure, HostFault};
+pub use failure::{Failure, HostFault, StreamFailure};
 pub use folder_disk::FolderDisk;
 pub use std_sink::StdSink;
 pub use std_source::StdSource;

@@ -1,5 +1,6 @@
 // A writer of the host as a sink.
 use crate::answers::{Answers, FirstRefusal};
+use crate::failure::StreamFailure;
 use std::alloc::Global;
 use std::io;
 use std::io::Write;
@@ -10,7 +11,7 @@ use store_io::{Sink, SinkFailed};
 pub struct StdSink<'a, W: Write + Drop> {
     writer: W,
     faults: u64,
-    failure: Option<io::Error>,
+    failure: Option<StreamFailure>,
     answers: Answers<'a>,
 }
 
@@ -26,13 +27,18 @@ impl<'a, W: Write + Drop> StdSink<'a, W> {
     }
 
     /// Why the last put that failed did.
-    pub fn failure(&self) -> Option<io::Error> {
+    pub fn failure(&self) -> Option<StreamFailure> {
         self.failure
     }
 
     /// How many lines were refused.
     pub fn refused(&self) -> u64 {
         self.answers.refused()
+    }
+
+    /// The number of the first of them, from 1 on.
+    pub fn first_refused(&self) -> Option<u64> {
+        self.answers.first_line()
     }
 
     /// Why the first of them was, as its answer says.
@@ -63,7 +69,7 @@ impl<'a, W: Write + Drop> Sink for StdSink<'a, W> {
                 Ok(())
             }
             Err(reason) => {
-                self.failure = Some(reason);
+                self.failure = Some(StreamFailure::new(reason));
                 self.faults = self.faults.saturating_add(1);
                 Err(SinkFailed)
             }

@@ -2,6 +2,7 @@
 ghost use Rattle.std.specs.Prelude.{◌≤◌, length, IfOk};
 
 use crate::answers::FirstRefusal;
+use crate::failure::StreamFailure;
 use crate::kept_lines::KeptLines;
 use std::alloc::Global;
 use std::io;
@@ -13,7 +14,7 @@ use store_io::{Source, SourceFailed};
 pub struct StdSource<'a, R: Read + Drop> {
     reader: R,
     faults: u64,
-    failure: Option<io::Error>,
+    failure: Option<StreamFailure>,
     lines: KeptLines<'a>,
 }
 
@@ -29,7 +30,7 @@ impl<'a, R: Read + Drop> StdSource<'a, R> {
     }
 
     /// Why the last read that failed did.
-    pub fn failure(&self) -> Option<io::Error> {
+    pub fn failure(&self) -> Option<StreamFailure> {
         self.failure
     }
 
@@ -68,7 +69,7 @@ impl<'a, R: Read + Drop> Source for StdSource<'a, R> {
                 Ok(n)
             }
             Err(reason) => {
-                self.failure = Some(reason);
+                self.failure = Some(StreamFailure::new(reason));
                 self.faults = self.faults.saturating_add(1);
                 Err(SourceFailed)
             }

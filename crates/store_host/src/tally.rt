@@ -15,6 +15,14 @@ pub(crate) struct Tally {
     pub(crate) first: Option<Failure>,
 }
 
+/// The count after a failure. It stands still at its type's end.
+fn raised(faults: u64) -> u64
+    ensures not_less { faults ≤ result }
+    ensures rose { Rose faults result }
+{
+    faults.saturating_add(1)
+}
+
 impl Tally {
     pub(crate) fn new() -> Tally
         ensures faults { result.faults ≡ 0 }
@@ -37,7 +45,7 @@ impl Tally {
         ensures calm { OnOk result (self.new ≡ self.old) }
     {
         if self.ended {
-            self.faults = self.faults.saturating_add(1);
+            self.faults = raised(self.faults);
             return Err(DiskFailed);
         }
         Ok(())
@@ -53,7 +61,7 @@ impl Tally {
         match answer {
             Ok(value) => Ok(value),
             Err(failure) => {
-                self.faults = self.faults.saturating_add(1);
+                self.faults = raised(self.faults);
                 self.ended = self.ended || failure.is_of_sync();
                 self.first = self.first.or(Some(failure));
                 Err(DiskFailed)
