@@ -143,7 +143,7 @@ pub enum HostFault {
     #[error("there is not enough memory")]
     NoMemory,
     /// A folder on the path cannot be made, read, locked or synced.
-    #[error("{path}: {failure}")]
+    #[error("{failure}")]
     Folder { path: String, failure: Failure },
     /// Another run has the folder.
     #[error("the folder is in use by another run")]
@@ -163,6 +163,14 @@ impl<T: Drop> From<AllocFailed<T>> for HostFault {
 }
 
 impl HostFault {
+    /// The folder that failed, where it is another than the one that was to be opened.
+    pub fn path(&self) -> Option<&str> {
+        match self {
+            HostFault::Folder { path, .. } => Some(path.as_str()),
+            HostFault::NoMemory | HostFault::InUse => None,
+        }
+    }
+
     /// The failure at this path.
     pub(crate) fn at(alloc: std::alloc::Global, path: &str, failure: Failure) -> HostFault {
         if failure.is_of_memory() {

@@ -6,11 +6,11 @@ use std::io::ErrorKind;
 use std::path::{Path, PathBuf};
 use std::{fs, io};
 
-/// The folder in which this path is.
-fn parent_of(path: &str) -> Path<'_> {
+/// The folder in which this path is; the one at the top is in none.
+fn parent_of(path: &str) -> Option<Path<'_>> {
     match Path::new(path).parent() {
-        Some(parent) if !parent.as_os_str().is_empty() => parent,
-        _ => Path::new("."),
+        Some(parent) if parent.as_os_str().is_empty() => Some(Path::new(".")),
+        parent => parent,
     }
 }
 
@@ -24,7 +24,10 @@ fn is_closed_to_runs(reason: &io::Error) -> bool {
 
 /// Syncs the folder around one that was found. A run before may have made that one and been stopped before its sync.
 fn sync_around_found(rt: HostRuntime, path: &str) -> Result<(), Failure> {
-    let synced = match File::open(&rt, parent_of(path)) {
+    let Some(parent) = parent_of(path) else {
+        return Ok(());
+    };
+    let synced = match File::open(&rt, parent) {
         Ok(around) => around.sync_all(),
         Err(reason) => Err(reason),
     };
@@ -36,7 +39,8 @@ fn sync_around_found(rt: HostRuntime, path: &str) -> Result<(), Failure> {
 
 /// Makes a folder, and syncs the one around it, which is opened before: where it can't be, none is made in it.
 fn make(rt: HostRuntime, path: &str) -> Result<(), Failure> {
-    let opened = File::open(&rt, parent_of(path));
+    let parent = parent_of(path).unwrap_or(Path::new("."));
+    let opened = File::open(&rt, parent);
     let around = opened.map_err(|reason| Failure::on_folder(Action::Make, reason))?;
     let made = fs::create_dir(&rt, path);
     made.map_err(|reason| Failure::on_folder(Action::Make, reason))?;

@@ -32,7 +32,7 @@ pub(crate) struct Handles {
     /// The folder itself, for its sync.
     folder: File,
     open: LruCache<u32, Handle>,
-    /// The files that were synced when this process first opened or made them.
+    /// The files that this process has had open. One that it found was synced first.
     settled: BTreeSet<u32>,
     /// Whether a file may have been made or removed since the folder was last synced, by this process or by one before
     /// that was stopped.
@@ -128,18 +128,23 @@ impl Handles {
         }
     }
 
-    /// Syncs a file that this process has not opened before: a process before may have been stopped between a write and
-    /// its sync.
-    fn settle(&mut self, number: u32, file: &File) -> Result<(), Failure> {
+    /// Takes note that this process has had the file open.
+    fn settle(&mut self, number: u32) -> Result<(), Failure> {
+        match self.settled.insert(number) {
+            Ok(_) => Ok(()),
+            Err(_) => Err(Failure::on_file(Action::Open, number, out_of_memory())),
+        }
+    }
+
+    /// Syncs a file that this process has not had open before: a process before may have been stopped between a write
+    /// and its sync.
+    fn sync_found(&mut self, number: u32, file: &File) -> Result<(), Failure> {
         if self.settled.contains(&number) {
             return Ok(());
         }
         let synced = file.sync_all();
         synced.map_err(|reason| Failure::on_file(Action::Sync, number, reason))?;
-        match self.settled.insert(number) {
-            Ok(_) => Ok(()),
-            Err(_) => Err(Failure::on_file(Action::Open, number, out_of_memory())),
-        }
+        self.settle(number)
     }
 
     /// Opens the file if it is there, and says whether it is.
@@ -150,7 +155,7 @@ impl Handles {
         let Some(file) = self.open_by(false, number)? else {
             return Ok(false);
         };
-        self.settle(number, &file)?;
+        self.sync_found(number, &file)?;
         self.keep(number, file)?;
         Ok(true)
     }
@@ -162,7 +167,7 @@ impl Handles {
             return Err(Failure::on_file(Action::Make, number, reason));
         };
         self.changed = true;
-        self.settle(number, &file)?;
+        self.settle(number)?;
         self.keep(number, file)?;
         self.sync_folder()
     }

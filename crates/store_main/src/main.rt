@@ -61,7 +61,7 @@ fn run(rt: HostRuntime, program: &str, words: &Vec<String>) -> Status {
             status
         }
         Err(fault) => {
-            speaker.say(speaker.dir, &fault);
+            speaker.say(fault.path().unwrap_or(speaker.dir), &fault);
             status_of(&fault)
         }
     }
