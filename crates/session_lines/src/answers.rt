@@ -2,7 +2,7 @@
 
 ghost use Rattle.std.specs.Prelude.{◌≡◌, ◌++◌, ◌∷◌, [], IfOk};
 ghost use Rattle.std.specs.Fmt.{decimal};
-ghost use Rattle.session.specs.Refusals.{IsOutcomeOf, refused_text};
+ghost use Rattle.session_lines.specs.Refusals.{IsOutcomeOf, refused_text};
 
 use crate::outcome::Outcome;
 use crate::refusal::{Refusal, Stop};

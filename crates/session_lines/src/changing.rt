@@ -11,12 +11,12 @@ ghost use Rattle.session_model.specs.Answer.{hex_bytes};
 ghost use Rattle.session_model.specs.Sound.{IsProperCommand, IsSound};
 ghost use Rattle.object_registry.specs.Bindings.{SameNames};
 ghost use Rattle.script_text.specs.Meaning.{target_meant};
-ghost use Rattle.session.specs.Stands.{StandsAt};
-ghost use Rattle.session.specs.Due.{Meets};
-ghost use Rattle.session.specs.Steps.{IsShort};
-ghost use Rattle.session.specs.Refusals.{Says};
-ghost use Rattle.session.specs.Steady.{IsSteadyOutcome, KnowsObjects};
-ghost use Rattle.session.specs.Changes.{Gives, IsChange, IsMade, MayChange, root_value};
+ghost use Rattle.session_lines.specs.Stands.{IsAtState};
+ghost use Rattle.session_lines.specs.Due.{Meets};
+ghost use Rattle.session_lines.specs.Steps.{IsShort};
+ghost use Rattle.session_lines.specs.Refusals.{Says};
+ghost use Rattle.session_lines.specs.Steady.{IsSteadyOutcome, KnowsObjects};
+ghost use Rattle.session_lines.specs.Changes.{IsValueGiven, IsChange, IsMade, MayChange, root_value};
 
 use crate::answers::{line, outcome_of};
 use crate::memory::Memory;
@@ -79,7 +79,7 @@ fn make_change(registry: &mut Registry, change: Change) -> Result<(), NoMemory>
 fn apply(memory: &mut Memory, judged: Result<Change, Stop>) -> Result<Bytes, Stop>
     requires { IfOk judged (MayChange memory.old.registry) }
     ensures known { KnowsObjects memory.old → KnowsObjects memory.new }
-    ensures says { (storage : Storage) (state : State) (turn : Turn) → StandsAt memory.old storage state → IsChange judged state turn → IsSound turn.state
+    ensures says { (storage : Storage) (state : State) (turn : Turn) → IsAtState memory.old storage state → IsChange judged state turn → IsSound turn.state
         → Says result memory.new storage turn }
 {
     match judged {
@@ -96,7 +96,7 @@ fn changed(memory: &mut Memory, judged: Result<Change, Stop>) -> Result<Outcome,
     requires known { KnowsObjects memory.old }
     ensures known { OnOk result (KnowsObjects memory.new) }
     ensures steady { IfOk result (IsSteadyOutcome memory.new) }
-    ensures meets { (is_next_type : List (List ℕ) → List ℕ → Bool) (storage : Storage) (state : State) (turn : Turn) → StandsAt memory.old storage state → IsChange judged state turn
+    ensures meets { (is_next_type : List (List ℕ) → List ℕ → Bool) (storage : Storage) (state : State) (turn : Turn) → IsAtState memory.old storage state → IsChange judged state turn
         → IsSound turn.state → IfOk result (λ outcome. Meets is_next_type outcome memory.new storage turn) }
     ensures short { IfOk result IsShort }
 {
@@ -107,7 +107,7 @@ fn changed(memory: &mut Memory, judged: Result<Change, Stop>) -> Result<Outcome,
 
 /// What the rest of a line is for an `int` member.
 fn int_in(rest: &Text) -> Result<i64, Stop>
-    ensures { Gives AnyValue.Int result (given_int (integer_of rest.now)) }
+    ensures { IsValueGiven AnyValue.Int result (given_int (integer_of rest.now)) }
 {
     match integer_in(rest) {
         GivenInteger::Fits(number) => Ok(number),
@@ -118,7 +118,7 @@ fn int_in(rest: &Text) -> Result<i64, Stop>
 
 /// What the rest of a line is for a `bytes` member.
 fn hex_in(alloc: Global, rest: &Text) -> Result<Bytes, Stop>
-    ensures { Gives AnyValue.Bytes result (given_bytes (hex_bytes rest.now)) }
+    ensures { IsValueGiven AnyValue.Bytes result (given_bytes (hex_bytes rest.now)) }
 {
     match bytes_in(alloc, rest)? {
         Some(bytes) => Ok(Bytes::new(bytes)),
@@ -138,7 +138,7 @@ fn id_of(memory: &Memory, target: &Target) -> Option<u64>
 
 /// What the rest of a line is for a `ref` or `lazy` member.
 fn id_in(memory: &Memory, rest: &Text) -> Result<u64, Stop>
-    ensures { (make : ℕ → AnyValue) (state : State) → SameNames memory.now.registry.names state.names → Gives make result (given_id make state (target_of rest.now)) }
+    ensures { (make : ℕ → AnyValue) (state : State) → SameNames memory.now.registry.names state.names → IsValueGiven make result (given_id make state (target_of rest.now)) }
 {
     let Some(target) = target_in(memory.alloc, rest)? else {
         return Err(Stop::Refused(Refusal::WrongKind));
@@ -152,7 +152,7 @@ fn id_in(memory: &Memory, rest: &Text) -> Result<u64, Stop>
 /// What the rest of a line is for a member that has this value now: `WrongKind`, `Range`, `NoName`.
 fn value_in(memory: &Memory, value: &Value, rest: Text) -> Result<Value, Stop>
     ensures kind { IfOk result (λ new. kind_of new ≡ kind_of value.now) }
-    ensures given { (state : State) → SameNames memory.now.registry.names state.names → Gives (λ v. v) result (given state rest (Some value.now)) }
+    ensures given { (state : State) → SameNames memory.now.registry.names state.names → IsValueGiven (λ v. v) result (given state rest (Some value.now)) }
 {
     match value {
         Value::Int(_) => Ok(Value::Int(int_in(&rest)?)),
@@ -166,7 +166,7 @@ fn value_in(memory: &Memory, value: &Value, rest: Text) -> Result<Value, Stop>
 
 fn set_change(memory: &Memory, name: &Text, member: &Text, rest: Text) -> Result<Change, Stop>
     ensures fits { IfOk result (MayChange memory.now.registry) }
-    ensures judged { (storage : Storage) (state : State) → StandsAt memory.now storage state → state.started ≡ true → IsChange result state (set_turn state name.now member.now rest) }
+    ensures judged { (storage : Storage) (state : State) → IsAtState memory.now storage state → state.started ≡ true → IsChange result state (set_turn state name.now member.now rest) }
 {
     let place = place_of(memory, name, member)?;
     let value = value_in(memory, place.value, rest)?;
@@ -187,7 +187,7 @@ pub fn set_member(
     requires known { KnowsObjects memory.old }
     ensures known { OnOk result (KnowsObjects memory.new) }
     ensures steady { IfOk result (IsSteadyOutcome memory.new) }
-    ensures meets { (is_next_type : List (List ℕ) → List ℕ → Bool) (storage : Storage) (state : State) → StandsAt memory.old storage state → state.started ≡ true
+    ensures meets { (is_next_type : List (List ℕ) → List ℕ → Bool) (storage : Storage) (state : State) → IsAtState memory.old storage state → state.started ≡ true
         → IsProperCommand (SetMember name.now member.now rest) → IfOk result (λ outcome. Meets is_next_type outcome memory.new storage (set_turn state name.now member.now rest)) }
     ensures short { IfOk result IsShort }
 {
@@ -197,7 +197,7 @@ pub fn set_member(
 
 fn add_change(memory: &Memory, name: &Text, member: &Text, target: &Target) -> Result<Change, Stop>
     ensures fits { IfOk result (MayChange memory.now.registry) }
-    ensures judged { (storage : Storage) (state : State) → StandsAt memory.now storage state → state.started ≡ true → IsChange result state (add_turn state name.now member.now (target_meant target.now)) }
+    ensures judged { (storage : Storage) (state : State) → IsAtState memory.now storage state → state.started ≡ true → IsChange result state (add_turn state name.now member.now (target_meant target.now)) }
 {
     let place = place_of(memory, name, member)?;
     if refs_in(place.value).is_none() {
@@ -223,7 +223,7 @@ pub fn add_to(
     requires known { KnowsObjects memory.old }
     ensures known { OnOk result (KnowsObjects memory.new) }
     ensures steady { IfOk result (IsSteadyOutcome memory.new) }
-    ensures meets { (is_next_type : List (List ℕ) → List ℕ → Bool) (storage : Storage) (state : State) → StandsAt memory.old storage state → state.started ≡ true
+    ensures meets { (is_next_type : List (List ℕ) → List ℕ → Bool) (storage : Storage) (state : State) → IsAtState memory.old storage state → state.started ≡ true
         → IfOk result (λ outcome. Meets is_next_type outcome memory.new storage (add_turn state name.now member.now (target_meant target.now))) }
     ensures short { IfOk result IsShort }
 {
@@ -233,7 +233,7 @@ pub fn add_to(
 
 fn cut_change(memory: &Memory, name: &Text, member: &Text, index: &Index) -> Result<Change, Stop>
     ensures fits { IfOk result (MayChange memory.now.registry) }
-    ensures judged { (storage : Storage) (state : State) → StandsAt memory.now storage state → state.started ≡ true → IsChange result state (cut_turn state name.now member.now index.now) }
+    ensures judged { (storage : Storage) (state : State) → IsAtState memory.now storage state → state.started ≡ true → IsChange result state (cut_turn state name.now member.now index.now) }
 {
     let place = place_of(memory, name, member)?;
     let Some(ids) = refs_in(place.value) else {
@@ -259,7 +259,7 @@ pub fn cut_from(
     requires known { KnowsObjects memory.old }
     ensures known { OnOk result (KnowsObjects memory.new) }
     ensures steady { IfOk result (IsSteadyOutcome memory.new) }
-    ensures meets { (is_next_type : List (List ℕ) → List ℕ → Bool) (storage : Storage) (state : State) → StandsAt memory.old storage state → state.started ≡ true
+    ensures meets { (is_next_type : List (List ℕ) → List ℕ → Bool) (storage : Storage) (state : State) → IsAtState memory.old storage state → state.started ≡ true
         → IfOk result (λ outcome. Meets is_next_type outcome memory.new storage (cut_turn state name.now member.now index.now)) }
     ensures short { IfOk result IsShort }
 {
@@ -285,7 +285,7 @@ fn is_ref(value: &Value) -> bool
 
 fn root_change(memory: &Memory, name: &Text) -> Result<Change, Stop>
     ensures fits { IfOk result (MayChange memory.now.registry) }
-    ensures judged { (storage : Storage) (state : State) → StandsAt memory.now storage state → state.started ≡ true → IsChange result state (root_turn state name.now) }
+    ensures judged { (storage : Storage) (state : State) → IsAtState memory.now storage state → state.started ≡ true → IsChange result state (root_turn state name.now) }
 {
     let Some((id, _)) = named(memory, name) else {
         return Err(Stop::Refused(Refusal::NoName));
@@ -305,7 +305,7 @@ pub fn set_root(memory: &mut Memory, name: &Text) -> Result<Outcome, NoMemory>
     requires known { KnowsObjects memory.old }
     ensures known { OnOk result (KnowsObjects memory.new) }
     ensures steady { IfOk result (IsSteadyOutcome memory.new) }
-    ensures meets { (is_next_type : List (List ℕ) → List ℕ → Bool) (storage : Storage) (state : State) → StandsAt memory.old storage state → state.started ≡ true
+    ensures meets { (is_next_type : List (List ℕ) → List ℕ → Bool) (storage : Storage) (state : State) → IsAtState memory.old storage state → state.started ≡ true
         → IfOk result (λ outcome. Meets is_next_type outcome memory.new storage (root_turn state name.now)) }
     ensures short { IfOk result IsShort }
 {

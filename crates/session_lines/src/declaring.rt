@@ -5,11 +5,11 @@ ghost use Rattle.graph_model.specs.Served.{Storage};
 ghost use Rattle.type_desc.specs.Grammar.{IsDesc};
 ghost use Rattle.type_desc.specs.declared.desc.TypeDesc.{TypeDesc as AnyDesc};
 ghost use Rattle.session_model.specs.Answer.{State, type_turn};
-ghost use Rattle.session.specs.Declarations.{IsJudgedType, IsNewType, IsSomeRecord};
-ghost use Rattle.session.specs.Stands.{Admits, StandsAt};
-ghost use Rattle.session.specs.Steady.{IsSteadyOutcome, KnowsObjects};
-ghost use Rattle.session.specs.Due.{Meets};
-ghost use Rattle.session.specs.Steps.{IsShort};
+ghost use Rattle.session_lines.specs.Declarations.{IsJudgedType, IsNewType, IsSomeRecord};
+ghost use Rattle.session_lines.specs.Stands.{Admits, IsAtState};
+ghost use Rattle.session_lines.specs.Steady.{IsSteadyOutcome, KnowsObjects};
+ghost use Rattle.session_lines.specs.Due.{Meets};
+ghost use Rattle.session_lines.specs.Steps.{IsShort};
 
 use crate::answers::{numbered_line, outcome_of};
 use crate::memory::Memory;
@@ -45,7 +45,7 @@ fn keep_type(memory: &mut Memory, id: u64, text: Bytes) -> Result<Outcome, NoMem
     ensures known { OnOk result (KnowsObjects memory.new) }
     ensures steady { IfOk result (IsSteadyOutcome memory.new) }
     ensures meets { (is_next_type : List (List ℕ) → List ℕ → Bool) (desc : AnyDesc) (storage : Storage) (state : State) → IsNewType memory.old.types desc id text → Admits is_next_type
-        → StandsAt memory.old storage state → IfOk result (λ outcome. Meets is_next_type outcome memory.new storage (type_turn state desc)) }
+        → IsAtState memory.old storage state → IfOk result (λ outcome. Meets is_next_type outcome memory.new storage (type_turn state desc)) }
     ensures short { IfOk result IsShort }
 {
     let answer = numbered_line(memory.alloc, "type ", id)?;
@@ -62,7 +62,7 @@ pub fn declare_type(memory: &mut Memory, desc: &TypeDesc) -> Result<Outcome, NoM
     requires known { KnowsObjects memory.old }
     ensures known { OnOk result (KnowsObjects memory.new) }
     ensures steady { IfOk result (IsSteadyOutcome memory.new) }
-    ensures meets { (is_next_type : List (List ℕ) → List ℕ → Bool) (storage : Storage) (state : State) → Admits is_next_type → StandsAt memory.old storage state
+    ensures meets { (is_next_type : List (List ℕ) → List ℕ → Bool) (storage : Storage) (state : State) → Admits is_next_type → IsAtState memory.old storage state
         → IfOk result (λ outcome. Meets is_next_type outcome memory.new storage (type_turn state desc.now)) }
     ensures short { IfOk result IsShort }
 {

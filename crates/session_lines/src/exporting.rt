@@ -8,10 +8,10 @@ ghost use Rattle.session_model.specs.Answer.{State};
 ghost use Rattle.session_model.specs.Sound.{IsRightGraph};
 ghost use Rattle.lazy_refs.specs.Forms.{IsObjectOf};
 ghost use Rattle.storer.specs.Gathered.{IsKnown};
-ghost use Rattle.session.specs.Broken.{IsBrokenAt, broken_by_export, taken_for};
-ghost use Rattle.session.specs.Exports.{GoesOn, IsDueNext, IsExporting, IsExportStep, IsGiven, IsLineOf, IsWalking, begun, looked, starts};
-ghost use Rattle.session.specs.ExportEnds.{steps_behind};
-ghost use Rattle.session.specs.Steps.{export_steps};
+ghost use Rattle.session_lines.specs.Broken.{IsBrokenAt, broken_by_export, taken_for};
+ghost use Rattle.session_lines.specs.Exports.{IsUnbrokenStep, IsDueNext, IsExporting, IsExportStep, IsGiven, IsLineOf, IsWalking, begun, looked, starts};
+ghost use Rattle.session_lines.specs.ExportEnds.{steps_behind};
+ghost use Rattle.session_lines.specs.Steps.{export_steps};
 
 use crate::answers::numbered_line;
 use crate::telling::with_line_feed;
@@ -36,7 +36,7 @@ pub enum ExportStep {
     Line(Bytes),
     /// The last line, with its line feed.
     End(Bytes),
-    /// The entity of this id has not its type's form.
+    /// The entity of this id is not well-formed.
     Broken { id: u64 },
 }
 
@@ -65,7 +65,7 @@ pub struct Export {
 }
 
 impl Model for Export {
-    ghost use Rattle.session.specs.Exports.{Exported};
+    ghost use Rattle.session_lines.specs.Exports.{Exported};
 
     ghost Value = { Exported };
 
@@ -139,7 +139,7 @@ impl Export {
     fn tell_next(&mut self) -> Result<ExportStep, NoMemory>
         ensures step { (state : State) (text : List ℕ) → self.old.stage ≡ Stage.Telling → self.old.asked ≡ None → IsExporting state text self.old
             → IfOk result (IsExportStep state text self.new) }
-        ensures on { IfOk result (GoesOn self.new) }
+        ensures on { IfOk result (IsUnbrokenStep self.new) }
         ensures nearer { (g : Graph) → self.old.stage ≡ Stage.Telling → self.old.asked ≡ None → IfOk result (λ step. steps_behind step self.new g < export_steps self.old g) }
     {
         match self.left.pop_first() {
@@ -155,7 +155,7 @@ impl Export {
     fn begin_telling(&mut self) -> Result<ExportStep, NoMemory>
         ensures step { (state : State) → self.old.stage ≡ Stage.Walking → self.old.asked ≡ None → IsRightGraph state.types state.next_id state.graph
             → IsWalking state.graph (starts state.graph) self.old.left [] → IfOk result (IsExportStep state [] self.new) }
-        ensures on { IfOk result (GoesOn self.new) }
+        ensures on { IfOk result (IsUnbrokenStep self.new) }
         ensures few { (g : Graph) → self.old.stage ≡ Stage.Walking → self.old.asked ≡ None → IfOk result (λ step. steps_behind step self.new g ≤ export_steps self.old g) }
     {
         self.stage = Stage::Telling;
@@ -166,7 +166,7 @@ impl Export {
     /// Asks for the next entity, where none is asked for.
     fn go_on(&mut self) -> Result<ExportStep, NoMemory>
         ensures step { (state : State) (text : List ℕ) → self.old.asked ≡ None → IsExporting state text self.old → IfOk result (IsExportStep state text self.new) }
-        ensures on { IfOk result (GoesOn self.new) }
+        ensures on { IfOk result (IsUnbrokenStep self.new) }
         ensures few { (g : Graph) → self.old.asked ≡ None → IfOk result (λ step. steps_behind step self.new g ≤ export_steps self.old g) }
     {
         match self.stage {
@@ -186,7 +186,7 @@ impl Export {
         requires { IsKnown types.now object.now }
         ensures step { (state : State) (text : List ℕ) (entity : AnyEntity) → state.types ≡ types.now → self.old.stage ≡ Stage.Telling → self.old.asked ≡ Some id → IsExporting state text self.old
             → entity_of state.graph id ≡ Some entity → IsObjectOf types.now entity object.now → IfOk result (IsExportStep state text self.new) }
-        ensures on { IfOk result (GoesOn self.new) }
+        ensures on { IfOk result (IsUnbrokenStep self.new) }
         ensures nearer { (g : Graph) → self.old.stage ≡ Stage.Telling → self.old.asked ≡ Some id → IfOk result (λ step. steps_behind step self.new g < export_steps self.old g) }
     {
         self.asked = None;
@@ -200,7 +200,7 @@ impl Export {
     fn walk(&mut self, id: u64, entity: &Entity) -> Result<ExportStep, NoMemory>
         ensures step { (state : State) (text : List ℕ) → self.old.stage ≡ Stage.Walking → self.old.asked ≡ Some id → IsExporting state text self.old
             → entity_of state.graph id ≡ Some entity.now → IfOk result (IsExportStep state text self.new) }
-        ensures on { IfOk result (GoesOn self.new) }
+        ensures on { IfOk result (IsUnbrokenStep self.new) }
         ensures nearer { (g : Graph) → self.old.stage ≡ Stage.Walking → has id self.old.left ≡ false → lists g id ≡ true → IfOk result (λ step. steps_behind step self.new g < export_steps self.old g) }
     {
         match self.look(id, entity) {
@@ -220,7 +220,7 @@ impl Export {
         requires { IsObjectOf types.now entity.now object.now }
         ensures step { (state : State) (text : List ℕ) → state.types ≡ types.now → self.old.asked ≡ Some id → IsExporting state text self.old → entity_of state.graph id ≡ Some entity.now
             → IfOk result (IsExportStep state text self.new) }
-        ensures on { IfOk result (GoesOn self.new) }
+        ensures on { IfOk result (IsUnbrokenStep self.new) }
         ensures nearer { (state : State) (text : List ℕ) → self.old.asked ≡ Some id → IsExporting state text self.old → entity_of state.graph id ≡ Some entity.now
             → IfOk result (λ step. steps_behind step self.new state.graph < export_steps self.old state.graph) }
     {
@@ -254,7 +254,7 @@ impl Export {
         let Some(entity) = given else {
             return Ok(ExportStep::Look(id));
         };
-        match read(self.alloc, types, &entity) {
+        match read(self.alloc, types, id, &entity) {
             Ok(Some(object)) => self.take(types, id, &entity, &object),
             Ok(None) => Ok(ExportStep::Broken { id }),
             Err(NoMemory) => Err(NoMemory),

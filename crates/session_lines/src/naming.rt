@@ -7,12 +7,12 @@ ghost use Rattle.session_model.specs.Answer.{State, Turn, drop_turn, home_turn, 
 ghost use Rattle.session_model.specs.Sound.{IsSound};
 ghost use Rattle.object_registry.specs.Bindings.{SameNames, binding};
 ghost use Rattle.storer.specs.Gathered.{IsKnown};
-ghost use Rattle.session.specs.Stands.{StandsAt};
-ghost use Rattle.session.specs.Steady.{IsSteadyOutcome, KnowsObjects};
-ghost use Rattle.session.specs.Due.{Meets};
-ghost use Rattle.session.specs.Steps.{IsShort};
-ghost use Rattle.session.specs.Refusals.{Says};
-ghost use Rattle.session.specs.Namings.{IsFreshObject, IsMaking, IsNaming, IsNotOpen, IsOpen, IsTargetAt, IsUnbound, target_of_root};
+ghost use Rattle.session_lines.specs.Stands.{IsAtState};
+ghost use Rattle.session_lines.specs.Steady.{IsSteadyOutcome, KnowsObjects};
+ghost use Rattle.session_lines.specs.Due.{Meets};
+ghost use Rattle.session_lines.specs.Steps.{IsShort};
+ghost use Rattle.session_lines.specs.Refusals.{Says};
+ghost use Rattle.session_lines.specs.Namings.{IsFreshObject, IsMaking, IsNaming, IsNotOpen, IsOpen, IsTargetAt, IsUnbound, target_of_root};
 
 use crate::answers::{line, numbered_line, outcome_of};
 use crate::changing::root_value;
@@ -50,7 +50,7 @@ pub fn bind_found(
 ) -> Result<Bytes, Stop>
     requires { IfOk judged (λ _. IsUnbound memory.old.registry name.now) }
     ensures known { KnowsObjects memory.old → KnowsObjects memory.new }
-    ensures says { (storage : Storage) (state : State) (turn : Turn) → StandsAt memory.old storage state → IsNaming name.now judged state turn → IsSound turn.state
+    ensures says { (storage : Storage) (state : State) (turn : Turn) → IsAtState memory.old storage state → IsNaming name.now judged state turn → IsSound turn.state
         → Says result memory.new storage turn }
 {
     match judged {
@@ -74,7 +74,7 @@ fn root_target(memory: &Memory) -> u64
 
 fn home_id(memory: &Memory, name: &Text) -> Result<u64, Stop>
     ensures free { IfOk result (λ _. IsUnbound memory.now.registry name.now) }
-    ensures judged { (storage : Storage) (state : State) → StandsAt memory.now storage state → IsNaming name.now result state (home_turn state name.now) }
+    ensures judged { (storage : Storage) (state : State) → IsAtState memory.now storage state → IsNaming name.now result state (home_turn state name.now) }
 {
     may_bind(memory, name)?;
     match root_target(memory) {
@@ -88,7 +88,7 @@ pub fn home(memory: &mut Memory, name: &Text) -> Result<Outcome, NoMemory>
     requires known { KnowsObjects memory.old }
     ensures known { OnOk result (KnowsObjects memory.new) }
     ensures steady { IfOk result (IsSteadyOutcome memory.new) }
-    ensures meets { (is_next_type : List (List ℕ) → List ℕ → Bool) (storage : Storage) (state : State) → StandsAt memory.old storage state → state.started ≡ true
+    ensures meets { (is_next_type : List (List ℕ) → List ℕ → Bool) (storage : Storage) (state : State) → IsAtState memory.old storage state → state.started ≡ true
         → IfOk result (λ outcome. Meets is_next_type outcome memory.new storage (home_turn state name.now)) }
     ensures short { IfOk result IsShort }
 {
@@ -117,7 +117,7 @@ fn pick_id(
     new: &Text,
 ) -> Result<u64, Stop>
     ensures free { IfOk result (λ _. IsUnbound memory.now.registry new.now) }
-    ensures judged { (storage : Storage) (state : State) → StandsAt memory.now storage state → state.started ≡ true
+    ensures judged { (storage : Storage) (state : State) → IsAtState memory.now storage state → state.started ≡ true
         → IsNaming new.now result state (pick_turn state name.now member.now index.now new.now) }
 {
     let place = place_of(memory, name, member)?;
@@ -142,7 +142,7 @@ pub fn pick(
     requires known { KnowsObjects memory.old }
     ensures known { OnOk result (KnowsObjects memory.new) }
     ensures steady { IfOk result (IsSteadyOutcome memory.new) }
-    ensures meets { (is_next_type : List (List ℕ) → List ℕ → Bool) (storage : Storage) (state : State) → StandsAt memory.old storage state → state.started ≡ true
+    ensures meets { (is_next_type : List (List ℕ) → List ℕ → Bool) (storage : Storage) (state : State) → IsAtState memory.old storage state → state.started ≡ true
         → IfOk result (λ outcome. Meets is_next_type outcome memory.new storage (pick_turn state name.now member.now index.now new.now)) }
     ensures short { IfOk result IsShort }
 {
@@ -154,7 +154,7 @@ pub fn pick(
 
 fn unbind(memory: &mut Memory, name: &Text) -> Result<Bytes, Stop>
     ensures known { KnowsObjects memory.old → KnowsObjects memory.new }
-    ensures says { (storage : Storage) (state : State) → StandsAt memory.old storage state → Says result memory.new storage (drop_turn state name.now) }
+    ensures says { (storage : Storage) (state : State) → IsAtState memory.old storage state → Says result memory.new storage (drop_turn state name.now) }
 {
     if is_root_name(name) {
         return Err(Stop::Refused(Refusal::Reserved));
@@ -173,7 +173,7 @@ pub fn drop_name(memory: &mut Memory, name: &Text) -> Result<Outcome, NoMemory>
     requires known { KnowsObjects memory.old }
     ensures known { OnOk result (KnowsObjects memory.new) }
     ensures steady { IfOk result (IsSteadyOutcome memory.new) }
-    ensures meets { (is_next_type : List (List ℕ) → List ℕ → Bool) (storage : Storage) (state : State) → StandsAt memory.old storage state → state.started ≡ true
+    ensures meets { (is_next_type : List (List ℕ) → List ℕ → Bool) (storage : Storage) (state : State) → IsAtState memory.old storage state → state.started ≡ true
         → IfOk result (λ outcome. Meets is_next_type outcome memory.new storage (drop_turn state name.now)) }
     ensures short { IfOk result IsShort }
 {
@@ -212,7 +212,7 @@ fn new_object(memory: &Memory, name: &Text, type_name: &Text) -> Result<Object, 
     ensures free { IfOk result (λ _. IsUnbound memory.now.registry name.now) }
     ensures room { IfOk result (λ _. memory.now.next_id < 2 ^ 48) }
     ensures typed { IfOk result (IsKnown memory.now.types) }
-    ensures judged { (storage : Storage) (state : State) → StandsAt memory.now storage state → IsMaking name.now result state (new_turn state name.now type_name.now) }
+    ensures judged { (storage : Storage) (state : State) → IsAtState memory.now storage state → IsMaking name.now result state (new_turn state name.now type_name.now) }
 {
     may_make(memory, name, type_name)?;
     let Some(type_id) = memory.types.latest(type_name) else {
@@ -230,7 +230,7 @@ fn put_object(memory: &mut Memory, name: &Text, judged: Result<Object, Stop>) ->
     requires room { IfOk judged (λ _. memory.old.next_id < 2 ^ 48) }
     requires typed { IfOk judged (IsKnown memory.old.types) }
     ensures known { KnowsObjects memory.old → KnowsObjects memory.new }
-    ensures says { (storage : Storage) (state : State) (turn : Turn) → StandsAt memory.old storage state → IsMaking name.now judged state turn → IsSound turn.state
+    ensures says { (storage : Storage) (state : State) (turn : Turn) → IsAtState memory.old storage state → IsMaking name.now judged state turn → IsSound turn.state
         → Says result memory.new storage turn }
 {
     match judged {
@@ -250,7 +250,7 @@ pub fn new(memory: &mut Memory, name: &Text, type_name: &Text) -> Result<Outcome
     requires known { KnowsObjects memory.old }
     ensures known { OnOk result (KnowsObjects memory.new) }
     ensures steady { IfOk result (IsSteadyOutcome memory.new) }
-    ensures meets { (is_next_type : List (List ℕ) → List ℕ → Bool) (storage : Storage) (state : State) → StandsAt memory.old storage state → state.started ≡ true
+    ensures meets { (is_next_type : List (List ℕ) → List ℕ → Bool) (storage : Storage) (state : State) → IsAtState memory.old storage state → state.started ≡ true
         → IfOk result (λ outcome. Meets is_next_type outcome memory.new storage (new_turn state name.now type_name.now)) }
     ensures short { IfOk result IsShort }
 {

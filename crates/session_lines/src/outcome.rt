@@ -42,6 +42,8 @@ pub enum Waiting {
     ForPrinted,
     /// That a line of the answer is printed, behind which the export goes on.
     ForNextLine(Export),
+    /// Nothing more: memory ran out, or an entity was not well-formed.
+    GivenUp,
 }
 
 /// What a command comes to, as far as the session gets alone.
@@ -53,6 +55,6 @@ pub enum Outcome {
     Ask(Ask, Phase),
     /// A line of the answer, with its line feed; the export goes on behind it.
     Line(Bytes, Export),
-    /// The entity of this id has not its type's form, which no storage that serves gives.
+    /// The entity of this id is not well-formed, which no storage that serves gives.
     Broken(u64),
 }

@@ -4,7 +4,7 @@ ghost use Rattle.std.specs.Prelude.{◌≡◌, ◌<◌, None, IfOk, IfSome, IsSo
 ghost use Rattle.session_model.specs.Answer.{id_in, is_root_name, ref_in, refs_in};
 ghost use Rattle.session_model.specs.Instances.{instance_at};
 ghost use Rattle.session_model.specs.Types.{is_root_type, member_index};
-ghost use Rattle.session.specs.Places.{IsFree, IsMember, IsMissing, IsNamed, IsNotFree, IsPlace, instance_named, index_of};
+ghost use Rattle.session_lines.specs.Places.{IsFree, IsMember, IsMissing, IsBoundTo, IsNotFree, IsPlace, instance_named, index_of};
 
 use crate::memory::Memory;
 use crate::refusal::{Refusal, Stop};
@@ -29,7 +29,7 @@ pub fn is_root_type(name: &Text) -> bool
 
 /// The object that a name is bound to, with its id.
 pub fn named<'a>(memory: &'a Memory, name: &Text) -> Option<(u64, &'a Instance)>
-    ensures { MatchOption result (instance_named memory.now.registry name.now ≡ None) (λ found. IsNamed memory.now.registry name.now found.0 found.1.now) }
+    ensures { MatchOption result (instance_named memory.now.registry name.now ≡ None) (λ found. IsBoundTo memory.now.registry name.now found.0 found.1.now) }
 {
     let id = memory.registry.id_of(name)?;
     match memory.registry.copy(id) {

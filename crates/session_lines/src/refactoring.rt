@@ -9,12 +9,12 @@ ghost use Rattle.refactor_table.specs.Names.{AreOfOneForm};
 ghost use Rattle.refactor_table.specs.Pairs.{IsFresh, pair_of};
 ghost use Rattle.session_model.specs.Answer.{State, differs, has_other_kind, kind_in, refactor_turn};
 ghost use Rattle.session_model.specs.Types.{is_same_kind, kind_of_member, latest_desc, type_in};
-ghost use Rattle.session.specs.Stands.{StandsAt};
-ghost use Rattle.session.specs.Due.{Meets};
-ghost use Rattle.session.specs.Pairings.{MayBePaired, MayNotBePaired, names_root};
-ghost use Rattle.session.specs.Refusals.{Says};
-ghost use Rattle.session.specs.Steady.{IsSteadyOutcome, KnowsObjects};
-ghost use Rattle.session.specs.Steps.{IsShort};
+ghost use Rattle.session_lines.specs.Stands.{IsAtState};
+ghost use Rattle.session_lines.specs.Due.{Meets};
+ghost use Rattle.session_lines.specs.Pairings.{MayBePaired, MayNotBePaired, names_root};
+ghost use Rattle.session_lines.specs.Refusals.{Says};
+ghost use Rattle.session_lines.specs.Steady.{IsSteadyOutcome, KnowsObjects};
+ghost use Rattle.session_lines.specs.Steps.{IsShort};
 
 use crate::answers::{line, outcome_of};
 use crate::memory::Memory;
@@ -138,7 +138,7 @@ fn add(table: &mut RefactorTable, old: RefName, new: RefName) -> Result<(), NoMe
 fn pair(memory: &mut Memory, old: RefName, new: RefName) -> Result<Bytes, Stop>
     requires { AreOfOneForm old new }
     ensures known { KnowsObjects memory.old → KnowsObjects memory.new }
-    ensures says { (storage : Storage) (state : State) → StandsAt memory.old storage state → Says result memory.new storage (refactor_turn state old new) }
+    ensures says { (storage : Storage) (state : State) → IsAtState memory.old storage state → Says result memory.new storage (refactor_turn state old new) }
 {
     match may_pair(memory, &old, &new) {
         Ok(()) => {
@@ -155,7 +155,7 @@ pub fn refactor(memory: &mut Memory, old: RefName, new: RefName) -> Result<Outco
     requires known { KnowsObjects memory.old }
     ensures known { OnOk result (KnowsObjects memory.new) }
     ensures steady { IfOk result (IsSteadyOutcome memory.new) }
-    ensures meets { (is_next_type : List (List ℕ) → List ℕ → Bool) (storage : Storage) (state : State) → StandsAt memory.old storage state
+    ensures meets { (is_next_type : List (List ℕ) → List ℕ → Bool) (storage : Storage) (state : State) → IsAtState memory.old storage state
         → IfOk result (λ outcome. Meets is_next_type outcome memory.new storage (refactor_turn state old new)) }
     ensures short { IfOk result IsShort }
 {

@@ -1,8 +1,8 @@
 //! Why a line is refused.
 
 ghost use Rattle.std.specs.Prelude.{◌≡◌};
-ghost use Rattle.session.specs.Refusals.{code_of};
-ghost use Rattle.session.specs.declared.refusal.Stop.TheVariants.{NoMemory as MemoryStop};
+ghost use Rattle.session_lines.specs.Refusals.{code_of};
+ghost use Rattle.session_lines.specs.declared.refusal.Stop.TheVariants.{NoMemory as MemoryStop};
 
 use graph_model::NoMemory;
 use std::alloc::{AllocError, AllocFailed};

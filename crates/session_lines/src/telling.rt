@@ -2,15 +2,14 @@
 
 ghost use Rattle.std.specs.Prelude.{◌≡◌, ◌++◌, ◌∷◌, [], ℕ, Bool, List, true, codes, IfOk, MatchOption, OnOk};
 ghost use Rattle.graph_model.specs.Served.{Storage};
-ghost use Rattle.graph_model.specs.declared.ask.Ask.{Ask as AnyAsk};
-ghost use Rattle.session_model.specs.Answer.{State, answered, collect_turn, forget_turn, show_turn};
-ghost use Rattle.session.specs.declared.memory.Memory.{Memory as AnyMemory};
-ghost use Rattle.session.specs.Stands.{StandsAt};
-ghost use Rattle.session.specs.Due.{Meets};
-ghost use Rattle.session.specs.Steady.{IsAskOf, IsSteadyOutcome, KnowsObjects};
-ghost use Rattle.session.specs.Steps.{IsShort};
-ghost use Rattle.session.specs.Refusals.{Says};
-ghost use Rattle.session.specs.Shown.{IsDescOf, LacksDesc};
+ghost use Rattle.session_model.specs.Answer.{State, collect_turn, forget_turn, show_turn, tidy_turn};
+ghost use Rattle.session_lines.specs.declared.memory.Memory.{Memory as AnyMemory};
+ghost use Rattle.session_lines.specs.Stands.{IsAtState};
+ghost use Rattle.session_lines.specs.Due.{Meets};
+ghost use Rattle.session_lines.specs.Steady.{IsSteadyOutcome, KnowsObjects};
+ghost use Rattle.session_lines.specs.Steps.{IsShort};
+ghost use Rattle.session_lines.specs.Refusals.{Says};
+ghost use Rattle.session_lines.specs.Shown.{IsDescOf, LacksDesc};
 
 use crate::answers::{line, numbered_line, outcome_of};
 use crate::memory::Memory;
@@ -46,7 +45,7 @@ pub fn with_line_feed(text: Bytes) -> Result<Bytes, NoMemory>
 }
 
 fn object_line(memory: &Memory, name: &Text) -> Result<Bytes, Stop>
-    ensures { (storage : Storage) (state : State) → StandsAt memory.now storage state → state.started ≡ true → Says result memory.now storage (show_turn state name.now) }
+    ensures { (storage : Storage) (state : State) → IsAtState memory.now storage state → state.started ≡ true → Says result memory.now storage (show_turn state name.now) }
 {
     let Some((id, instance)) = named(memory, name) else {
         return Err(Stop::Refused(Refusal::NoName));
@@ -63,7 +62,7 @@ fn object_line(memory: &Memory, name: &Text) -> Result<Bytes, Stop>
 /// `show NAME`: the object as a line of JSON.
 pub fn show(memory: &Memory, name: &Text) -> Result<Outcome, NoMemory>
     ensures steady { IfOk result (IsSteadyOutcome memory.now) }
-    ensures meets { (is_next_type : List (List ℕ) → List ℕ → Bool) (storage : Storage) (state : State) → StandsAt memory.now storage state → state.started ≡ true
+    ensures meets { (is_next_type : List (List ℕ) → List ℕ → Bool) (storage : Storage) (state : State) → IsAtState memory.now storage state → state.started ≡ true
         → IfOk result (λ outcome. Meets is_next_type outcome memory.now storage (show_turn state name.now)) }
     ensures short { IfOk result IsShort }
 {
@@ -76,7 +75,7 @@ pub fn forget(memory: &mut Memory) -> Result<Outcome, NoMemory>
     requires known { KnowsObjects memory.old }
     ensures known { OnOk result (KnowsObjects memory.new) }
     ensures steady { IfOk result (IsSteadyOutcome memory.new) }
-    ensures meets { (is_next_type : List (List ℕ) → List ℕ → Bool) (storage : Storage) (state : State) → StandsAt memory.old storage state → state.started ≡ true
+    ensures meets { (is_next_type : List (List ℕ) → List ℕ → Bool) (storage : Storage) (state : State) → IsAtState memory.old storage state → state.started ≡ true
         → IfOk result (λ outcome. Meets is_next_type outcome memory.new storage (forget_turn state)) }
     ensures short { IfOk result IsShort }
 {
@@ -87,9 +86,8 @@ pub fn forget(memory: &mut Memory) -> Result<Outcome, NoMemory>
 
 /// `collect`: the storage is asked to remove what is not reached.
 pub fn collect() -> Outcome
-    ensures asks { IsAskOf AnyAsk.Collect result }
     ensures steady { (memory : AnyMemory) → IsSteadyOutcome memory result }
-    ensures meets { (is_next_type : List (List ℕ) → List ℕ → Bool) (memory : AnyMemory) (storage : Storage) (state : State) → StandsAt memory storage state
+    ensures meets { (is_next_type : List (List ℕ) → List ℕ → Bool) (memory : AnyMemory) (storage : Storage) (state : State) → IsAtState memory storage state
         → Meets is_next_type result memory storage (collect_turn state) }
     ensures short { IsShort result }
 {
@@ -98,10 +96,9 @@ pub fn collect() -> Outcome
 
 /// `tidy`: the storage is asked to dissolve files that are used too little.
 pub fn tidy(alloc: Global) -> Result<Outcome, NoMemory>
-    ensures asks { IfOk result (IsAskOf AnyAsk.Tidy) }
     ensures steady { (memory : AnyMemory) → IfOk result (IsSteadyOutcome memory) }
-    ensures meets { (is_next_type : List (List ℕ) → List ℕ → Bool) (memory : AnyMemory) (storage : Storage) (state : State) → StandsAt memory storage state
-        → IfOk result (λ outcome. Meets is_next_type outcome memory storage (answered state (codes "tidied"))) }
+    ensures meets { (is_next_type : List (List ℕ) → List ℕ → Bool) (memory : AnyMemory) (storage : Storage) (state : State) → IsAtState memory storage state
+        → IfOk result (λ outcome. Meets is_next_type outcome memory storage (tidy_turn state)) }
     ensures short { IfOk result IsShort }
 {
     let text = line(alloc, "tidied")?;
