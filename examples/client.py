@@ -22,7 +22,7 @@ class Ended(Exception):
 class Store:
     def __init__(self, folder, program=STORE):
         words = [program, "run", folder, "1"]
-        self.process = subprocess.Popen(words, stdin=subprocess.PIPE, stdout=subprocess.PIPE, encoding="utf-8", newline="\n")
+        self.process = subprocess.Popen(words, stdin=subprocess.PIPE, stdout=subprocess.PIPE)
 
     def __enter__(self):
         return self
@@ -32,16 +32,16 @@ class Store:
 
     def send(self, line):
         try:
-            self.process.stdin.write(line + "\n")
+            self.process.stdin.write(line.encode() + b"\n")
             self.process.stdin.flush()
         except OSError:
             raise Ended(f"status {self.process.wait()} before: {line}") from None
 
     def answer(self, line):
         said = self.process.stdout.readline()
-        if not said.endswith("\n"):
+        if not said.endswith(b"\n"):
             raise Ended(f"status {self.process.wait()} at: {line}")
-        return said[:-1]
+        return said[:-1].decode()
 
     def call(self, line):
         """Carries out one line and returns its answer without the first word, which says what kind of answer it is."""
