@@ -4,15 +4,13 @@
 #[cfg(test)]
 mod agreements;
 #[cfg(test)]
-mod channel_files;
-#[cfg(test)]
-mod channels;
-#[cfg(test)]
 mod chunks;
 #[cfg(test)]
 mod disks;
 #[cfg(test)]
 mod entries;
+#[cfg(test)]
+mod files;
 #[cfg(test)]
 mod indexes;
 #[cfg(test)]

@@ -1,6 +1,6 @@
 use Rattle.std.proofs.Common.{ℕ, List, sym, subst}
 use Rattle.gated_log.specs.Reading.{IsReading}
-use Rattle.disk_rows.proofs.channel_files.open.Goals as goal
+use Rattle.disk_rows.proofs.files.open.Goals as goal
 
 -- beginning to read changed no byte
 pub next-requires-clause-reading : goal.next-requires-clause-reading
