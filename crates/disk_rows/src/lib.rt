@@ -4,6 +4,8 @@
 #[cfg(test)]
 mod agreements;
 #[cfg(test)]
+mod channels;
+#[cfg(test)]
 mod chunks;
 #[cfg(test)]
 mod disks;
