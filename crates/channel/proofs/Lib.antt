@@ -16,3 +16,7 @@ pub mod PartImages
 pub mod Events
 pub mod Typed
 pub mod Dropped
+pub mod FromShows
+pub mod PartShows
+pub mod ShownParts
+pub mod ShownDropped

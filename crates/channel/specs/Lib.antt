@@ -9,3 +9,6 @@ pub mod OnDisk
 pub mod Sound
 pub mod Faults
 pub mod Full
+pub mod Images
+pub mod ChunkRule
+pub mod Shown

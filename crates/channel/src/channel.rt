@@ -11,6 +11,10 @@ ghost use Rattle.channel_files.specs.Whole.{HasWholeChunks};
 ghost use Rattle.channel.specs.Core.{core_of, last_part};
 ghost use Rattle.channel.specs.OnDisk.{AgreesWithImages, HoldsChannel};
 ghost use Rattle.channel.specs.Sound.{IsSound};
+ghost use Rattle.channel_files.specs.Chunks.{content_of};
+ghost use Rattle.channel.specs.Images.{log_header};
+ghost use Rattle.channel.specs.ChunkRule.{AreRightTo};
+ghost use Rattle.channel.specs.Shown.{EndsAt, disk_held};
 
 use crate::part::{Part, Slot, zeros};
 use channel_files::{ChannelFiles, Sizes};
@@ -162,6 +166,10 @@ impl<D: Disk> Channel<D> {
         ensures sound { IsSound D.tells D.reads self.now }
         ensures read { IsTrue D.tells → self.now.failed ≡ false → HoldsChannel D.reads self.now (D.reads self.now.files.disk) }
         ensures images { IsTrue D.tells → self.now.failed ≡ false → AgreesWithImages D.reads D.leaves self.now → EachImage (D.leaves self.now.files.disk) (HoldsChannel D.reads self.now) }
+        // Each image ends with what the disk holds, where the chunks keep the rule.
+        ensures ends { IsTrue D.tells → self.now.failed ≡ false → AgreesWithImages D.reads D.leaves self.now → self.now.files.transactions.log.header ≡ log_header self.now.channels self.now.number
+            → (most : ℕ) → AreRightTo self.now.channels self.now.number most (last_part self.now) (content_of (D.reads self.now.files.disk))
+            → EachImage (D.leaves self.now.files.disk) (EndsAt self.now.channels self.now.number (last_part self.now) most (disk_held D.reads self.now)) }
     {
         let _number = self.number;
     }

@@ -4,6 +4,7 @@
 mod channel;
 mod fault;
 mod holding;
+mod laws;
 mod opening;
 mod part;
 mod reading;
@@ -12,3 +13,4 @@ mod typing;
 
 pub use channel::{Channel, NewChannel};
 pub use fault::ChannelFault;
+pub use laws::parts_keep_the_rule;

@@ -1,14 +1,19 @@
 //! What a channel's table is filled with when it is opened.
-ghost use Rattle.std.specs.Prelude.{◌≡◌, ◌≤◌, true, false, length, None, Some, IsTrue, OnOk, OnErr, IfErr, IfSome, IsErrOf};
+ghost use Rattle.std.specs.Prelude.{◌≡◌, ◌≤◌, ◌-◌, ℕ, true, false, length, take, None, Some, IsTrue, OnOk, OnErr, IfErr, IfSome, IsErrOf};
 ghost use Rattle.std.specs.FinMap as finite;
 ghost use Rattle.store_io.specs.Disk.{Rose};
 ghost use Rattle.entity_form.specs.Spelling.{IsHeaderOf};
 ghost use Rattle.transactions_file.specs.Files.{is_live};
+ghost use Rattle.channel_files.specs.Chunks.{content_of};
 ghost use Rattle.channel_files.specs.Heads.{full_record};
 ghost use Rattle.channel_files.specs.Stores.{IsStore};
 ghost use Rattle.channel.specs.Core.{last_part};
 ghost use Rattle.channel.specs.Faults.{UnlessFault, ending_after, failed_after};
 ghost use Rattle.channel.specs.OnDisk.{AgreesWithImages, Stands};
+ghost use Rattle.store_io.specs.Whole.{EachImage};
+ghost use Rattle.channel.specs.ChunkRule.{AreRightTo};
+ghost use Rattle.channel.specs.Images.{log_header};
+ghost use Rattle.channel.specs.Shown.{ShowsAt, disk_in};
 ghost use Rattle.channel.specs.Rows.{opened_row};
 
 use crate::channel::Channel;
@@ -85,6 +90,13 @@ impl<D: Disk> Channel<D> {
           ending = ending_after result self.old.ending;
           failed = failed_after result self.old.failed;
         } }
+        // Whatever was answered, each image shows what the disk held at the store before, where the chunks up to that keep the rule.
+        ensures before { IsTrue D.tells → self.old.failed ≡ false → AgreesWithImages D.reads D.leaves self.old → self.old.files.transactions.log.header ≡ log_header self.old.channels self.old.number
+            → (most : ℕ) → AreRightTo self.old.channels self.old.number most self.old.files.transactions.inventory.state.last_before (content_of (D.reads self.old.files.disk))
+            → EachImage (D.leaves self.new.files.disk) (ShowsAt self.old.channels self.old.number self.old.files.transactions.inventory.state.last_before most
+            (disk_in self.old.files.transactions.inventory.state.last_before (content_of (D.reads self.old.files.disk)) self.old.files.transactions.inventory.state.next_id_before)) }
+        ensures content { IsTrue D.tells → OnOk result (content_of (D.reads self.new.files.disk) ≡ take (length (content_of (D.reads self.old.files.disk)) - 1) (content_of (D.reads self.old.files.disk))) }
+        ensures header { self.new.files.transactions.log.header ≡ self.old.files.transactions.log.header }
         ensures images { IsTrue D.tells → AgreesWithImages D.reads D.leaves self.old → UnlessFault result (AgreesWithImages D.reads D.leaves self.new) }
         ensures full { self.old.failed ≡ false → IfSome (full_record self.old.files.transactions.log.length) (λ n. IsErrOf result (ChannelFault.Full n) × (self.new.files ≡ self.old.files)) }
         ensures not_full { self.old.failed ≡ false → full_record self.old.files.transactions.log.length ≡ None → IfErr result (λ e. e ≡ ChannelFault.Fault) }

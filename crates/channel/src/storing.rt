@@ -1,5 +1,5 @@
 //! A channel's part of a store: made ready, stored and confirmed.
-ghost use Rattle.std.specs.Prelude.{◌≡◌, ◌≤◌, ◌+◌, ◌^◌, ◌⊎◌, true, false, None, Some, List, IsTrue, IsErr, IsSome, IfSome, IfErr, IfOk, OnOk, OnErr, IsErrOf, length};
+ghost use Rattle.std.specs.Prelude.{◌≡◌, ◌≤◌, ◌+◌, ◌^◌, ◌⊎◌, ◌++◌, [], ◌∷◌, ℕ, true, false, None, Some, List, IsTrue, IsErr, IsSome, IfSome, IfErr, IfOk, OnOk, OnErr, IsErrOf, length};
 ghost use Rattle.std.specs.List.{AllByRecursion};
 ghost use Rattle.store_io.specs.Disk.{Rose};
 ghost use Rattle.store_io.specs.Whole.{EachImage};
@@ -16,6 +16,13 @@ ghost use Rattle.channel.specs.Faults.{IsFaultOrFull, UnlessFault, ending_after,
 ghost use Rattle.channel.specs.Full.{part_full_at_first, part_full_behind};
 ghost use Rattle.channel.specs.OnDisk.{AgreesWithImages, HoldsChannel, HoldsPart};
 ghost use Rattle.channel.specs.Parts.{IsStorable};
+ghost use Rattle.channel_files.specs.declared.place.Place.{Place as AnyPlace};
+ghost use Rattle.channel_files.specs.Chunks.{content_of};
+ghost use Rattle.channel_files.specs.Heads.{chunk_of};
+ghost use Rattle.channel.specs.Entities.{chunk_for};
+ghost use Rattle.channel.specs.Images.{log_header};
+ghost use Rattle.channel.specs.ChunkRule.{AreRightTo, IsOwn};
+ghost use Rattle.channel.specs.Shown.{EndsAt, HasPart, disk_held};
 
 use crate::channel::{Attempt, Channel};
 use crate::fault::{ChannelFault, note};
@@ -94,6 +101,15 @@ impl<D: Disk> Channel<D> {
         // Whatever was answered, each image has what the channel stood for, or this and the part.
         ensures stop { IsTrue D.tells → self.old.failed ≡ false → AgreesWithImages D.reads D.leaves self.old
             → EachImage (D.leaves self.new.files.disk) (λ image. HoldsChannel D.reads self.old image ⊎ IfSome self.old.prepared (λ part. HoldsPart D.reads self.old number next_id part image)) }
+        // So it is with its chunks, where those of before keep the rule, and the records of the part are this channel's.
+        ensures parts { IsTrue D.tells → self.old.failed ≡ false → AgreesWithImages D.reads D.leaves self.old
+            → self.old.files.transactions.log.header ≡ log_header self.old.channels self.old.number
+            → (most : ℕ) → AreRightTo self.old.channels self.old.number most (last_part self.old) (content_of (D.reads self.old.files.disk)) → most ≤ next_id
+            → IfSome self.old.prepared (AllByRecursion (IsOwn self.old.channels self.old.number next_id))
+            → EachImage (D.leaves self.new.files.disk) (λ image. EndsAt self.old.channels self.old.number (last_part self.old) most (disk_held D.reads self.old) image
+            ⊎ IfSome self.old.prepared (λ part. HasPart self.old.channels self.old.number (last_part self.old) most part next_id (disk_held D.reads self.old) image)) }
+        ensures content { IsTrue D.tells → OnOk result (IfSome self.old.prepared (λ part. (place : AnyPlace) × (content_of (D.reads self.new.files.disk) ≡ content_of (D.reads self.old.files.disk) ++ chunk_of number place (chunk_for part) ∷ []))) }
+        ensures header { self.new.files.transactions.log.header ≡ self.old.files.transactions.log.header }
         ensures images { IsTrue D.tells → AgreesWithImages D.reads D.leaves self.old → UnlessFault result (AgreesWithImages D.reads D.leaves self.new) }
 
         ensures tried { self.old.failed ≡ false → IsErrOf result ChannelFault.Fault → self.new.tried ≡ Some (TriedPart number next_id) }

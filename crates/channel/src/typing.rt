@@ -1,10 +1,14 @@
 //! A type record is kept.
-ghost use Rattle.std.specs.Prelude.{◌≡◌, ◌≤◌, ◌⊎◌, ◌++◌, [], ◌∷◌, true, false, None, Some, IsTrue, length, take, OnOk, OnErr, IfErr, IfSome, IsErrOf};
+ghost use Rattle.std.specs.Prelude.{◌≡◌, ◌≤◌, ◌⊎◌, ◌++◌, [], ◌∷◌, ℕ, true, false, None, Some, IsTrue, length, take, OnOk, OnErr, IfErr, IfSome, IsErrOf};
 ghost use Rattle.store_io.specs.Disk.{Rose};
 ghost use Rattle.store_io.specs.Whole.{EachImage};
 ghost use Rattle.core_steps.specs.Told.{TriedType};
 ghost use Rattle.channel_files.specs.Heads.{full_record};
-ghost use Rattle.channel.specs.Core.{core_of, types_kept};
+ghost use Rattle.channel_files.specs.Chunks.{content_of};
+ghost use Rattle.channel.specs.ChunkRule.{AreRightTo};
+ghost use Rattle.channel.specs.Core.{core_of, last_part, types_kept};
+ghost use Rattle.channel.specs.Images.{log_header};
+ghost use Rattle.channel.specs.Shown.{EndsAt, disk_held};
 ghost use Rattle.channel.specs.Faults.{UnlessFault, ending_after, failed_after};
 ghost use Rattle.channel.specs.OnDisk.{AgreesWithImages, HoldsChannel, HoldsWith};
 
@@ -35,6 +39,11 @@ impl<D: Disk> Channel<D> {
         // Whatever was answered, each image has what the channel stands for, and the record or not.
         ensures stop { IsTrue D.tells → self.old.failed ≡ false → AgreesWithImages D.reads D.leaves self.old
             → EachImage (D.leaves self.new.files.disk) (λ image. HoldsChannel D.reads self.old image ⊎ HoldsWith D.reads self.old (types_kept D.reads self.old ++ text.now ∷ []) image) }
+        // The chunks that are read stay, and each image ends with what the disk held, where they keep the rule.
+        ensures content { IsTrue D.tells → content_of (D.reads self.new.files.disk) ≡ content_of (D.reads self.old.files.disk) }
+        ensures ends { IsTrue D.tells → self.old.failed ≡ false → AgreesWithImages D.reads D.leaves self.old → self.old.files.transactions.log.header ≡ log_header self.old.channels self.old.number
+            → (most : ℕ) → AreRightTo self.old.channels self.old.number most (last_part self.old) (content_of (D.reads self.old.files.disk))
+            → EachImage (D.leaves self.new.files.disk) (EndsAt self.old.channels self.old.number (last_part self.old) most (disk_held D.reads self.old)) }
         ensures images { IsTrue D.tells → AgreesWithImages D.reads D.leaves self.old → UnlessFault result (AgreesWithImages D.reads D.leaves self.new) }
         ensures tried { self.old.failed ≡ false → IsErrOf result ChannelFault.Fault → self.new.tried ≡ Some (TriedType text.now) }
         ensures not_tried { UnlessFault result (self.new.tried ≡ self.old.tried) }

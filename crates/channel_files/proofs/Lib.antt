@@ -15,3 +15,4 @@ pub mod FoundEntities
 pub mod WholeChunks
 pub mod FileOne
 pub mod LiveFiles
+pub mod LastStores

@@ -127,6 +127,7 @@ impl<D: Disk> ChannelFiles<D> {
         // The chunk and the table in what is read and in each image, whatever was answered, and the three cases of `Full`.
         ensures stored { IsStored D.tells D.reads D.leaves self.old self.new number chunk.now next_id result }
         ensures whole_chunks { IsTrue D.tells → HasWholeChunks (D.reads self.old.disk) → UnlessFault result (HasWholeChunks (D.reads self.new.disk)) }
+        ensures header { self.new.transactions.log.header ≡ self.old.transactions.log.header }
         // File 1, which has no chunk and no entry, is as it was.
         ensures types { IsTrue D.tells → FileStays 1 (D.reads self.old.disk) (D.reads self.new.disk) (D.leaves self.old.disk) (D.leaves self.new.disk) }
         ensures numbers { OnErr result ((self.new.transactions.inventory.state.last ≡ self.old.transactions.inventory.state.last)
@@ -165,6 +166,7 @@ impl<D: Disk> ChannelFiles<D> {
         // The inventory and the tables with or without that store, and `Full` exactly where the log takes no record.
         ensures dropped { IsDropped D.tells D.reads D.leaves self.old self.new result }
         ensures whole_chunks { IsTrue D.tells → HasWholeChunks (D.reads self.old.disk) → OnOk result (HasWholeChunks (D.reads self.new.disk)) }
+        ensures header { self.new.transactions.log.header ≡ self.old.transactions.log.header }
         // File 1, which has no chunk and no entry, is as it was.
         ensures types { IsTrue D.tells → FileStays 1 (D.reads self.old.disk) (D.reads self.new.disk) (D.leaves self.old.disk) (D.leaves self.new.disk) }
         ensures err { OnErr result (self.new.transactions ≡ self.old.transactions) }

@@ -7,6 +7,8 @@ use Rattle.channel.proofs.Sounds.{sound_read, room_called, sound_refused, room_r
 use Rattle.channel.proofs.Prepared.{room_for_nothing}
 use Rattle.channel.proofs.Typed.{full_stays, unless_full}
 use Rattle.channel.proofs.Dropped.{same_all, sound_dropped, room_failed, images_dropped, images_same}
+use Rattle.channel_files.specs.Stores.{IsStore}
+use Rattle.channel.proofs.ShownDropped.{each_before}
 use Rattle.channel.proofs.channel.Channel.drop_last.Goals as goal
 
 pub invariant_of-self : goal.invariant_of-self
@@ -72,3 +74,24 @@ returns-in-Err-Full-clause-images g c =
     let nothing = full_stays (call.new.self ≡ files) call.result c.in-Err-Full.number (full_record files.transactions.log.length) dropped.full dropped.not_full full in
     rw (← c.self.view_is) (λ told agrees.
     unless_full (Unit {0}) c.note-in-Err-Full.result c.in-Err-Full.number _ c.note-in-Err-Full.ensures.same (images_same call.new.self new.ending new.failed agrees nothing))
+
+pub returns-in-Ok-clause-before : goal.returns-in-Ok-clause-before
+returns-in-Ok-clause-before g c =
+    let call = c.drop_store in
+    let last = subst (λ v. IsStore v.files.transactions.inventory.state.entry) (sym c.self.view_is) c.requires.last in
+    rw (← c.self.view_is) (λ told fine agrees header most right.
+    each_before g.D.Disk.reads g.D.Disk.leaves _ (c.self.invariant.0.on_disk told c.if-self.false) agrees header most right last g.D.Disk.tells call.new.self call.result call.ensures.dropped told)
+
+pub returns-in-Err-Full-clause-before : goal.returns-in-Err-Full-clause-before
+returns-in-Err-Full-clause-before g c =
+    let call = c.drop_store in
+    let last = subst (λ v. IsStore v.files.transactions.inventory.state.entry) (sym c.self.view_is) c.requires.last in
+    rw (← c.self.view_is) (λ told fine agrees header most right.
+    each_before g.D.Disk.reads g.D.Disk.leaves _ (c.self.invariant.0.on_disk told c.if-self.false) agrees header most right last g.D.Disk.tells call.new.self call.result call.ensures.dropped told)
+
+pub returns-in-Err-Fault-clause-before : goal.returns-in-Err-Fault-clause-before
+returns-in-Err-Fault-clause-before g c =
+    let call = c.drop_store in
+    let last = subst (λ v. IsStore v.files.transactions.inventory.state.entry) (sym c.self.view_is) c.requires.last in
+    rw (← c.self.view_is) (λ told fine agrees header most right.
+    each_before g.D.Disk.reads g.D.Disk.leaves _ (c.self.invariant.0.on_disk told c.if-self.false) agrees header most right last g.D.Disk.tells call.new.self call.result call.ensures.dropped told)

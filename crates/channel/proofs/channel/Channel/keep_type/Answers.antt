@@ -5,7 +5,7 @@ use Rattle.gated_log.specs.State.{LogState}
 use Rattle.core_steps.specs.Told.{TriedType}
 use Rattle.channel.specs.Attempts.{tried_of}
 use Rattle.channel.proofs.Sounds.{sound_refused, room_refused}
-use Rattle.channel.proofs.Typed.{TypeCall, sound_typed, room_typed, core_typed, images_typed, log_at_full, images_at_full, not_kept, stop_typed, synced_log, unless_full, written_over}
+use Rattle.channel.proofs.Typed.{ends_typed, TypeCall, sound_typed, room_typed, core_typed, images_typed, log_at_full, images_at_full, not_kept, stop_typed, synced_log, unless_full, written_over}
 use Rattle.channel.proofs.channel.Channel.keep_type.Goals as goal
 
 -- ---- the channel still holds what it held
@@ -157,3 +157,36 @@ returns-in-Err-Fault-clause-tried g c = λ fine is.
     let window = c.self.inside.window in
     let written = written_over window.len c.put_front.new.out window.items (c.put_front.ensures.length ∙ c.deref_mut.ensures.len) in
     ap (λ (l : List ℕ). Some (TriedType l)) (ap (take (length c.args.text.now)) written ∙ c.put_front.ensures.front)
+
+pub returns-in-Ok-clause-ends : goal.returns-in-Ok-clause-ends
+returns-in-Ok-clause-ends g c =
+    let ensures = c.keep_record.ensures in
+    let new = c.keep_record.new in
+    let call : TypeCall g.D.Disk.tells g.D.Disk.reads g.D.Disk.leaves _ new.self c.in-Some.log new.log c.args.text.now c.keep_record.result =
+    record { was = c.self.invariant.0; sound = c.if-self.false; types_are = c.in-Some.is; appended = ensures.appended; stays = ensures.stays } in
+    rw (← c.self.view_is) (λ told fine agrees header most right. ends_typed call told agrees header most right)
+
+pub returns-in-Ok-clause-content : goal.returns-in-Ok-clause-content
+returns-in-Ok-clause-content g c = rw (← c.self.view_is) c.keep_record.ensures.stays.content
+
+pub returns-in-Err-Full-clause-ends : goal.returns-in-Err-Full-clause-ends
+returns-in-Err-Full-clause-ends g c =
+    let ensures = c.keep_record.ensures in
+    let new = c.keep_record.new in
+    let call : TypeCall g.D.Disk.tells g.D.Disk.reads g.D.Disk.leaves _ new.self c.in-Some.log new.log c.args.text.now c.keep_record.result =
+    record { was = c.self.invariant.0; sound = c.if-self.false; types_are = c.in-Some.is; appended = ensures.appended; stays = ensures.stays } in
+    rw (← c.self.view_is) (λ told fine agrees header most right. ends_typed call told agrees header most right)
+
+pub returns-in-Err-Full-clause-content : goal.returns-in-Err-Full-clause-content
+returns-in-Err-Full-clause-content g c = rw (← c.self.view_is) c.keep_record.ensures.stays.content
+
+pub returns-in-Err-Fault-clause-ends : goal.returns-in-Err-Fault-clause-ends
+returns-in-Err-Fault-clause-ends g c =
+    let ensures = c.keep_record.ensures in
+    let new = c.keep_record.new in
+    let call : TypeCall g.D.Disk.tells g.D.Disk.reads g.D.Disk.leaves _ new.self c.in-Some.log new.log c.args.text.now c.keep_record.result =
+    record { was = c.self.invariant.0; sound = c.if-self.false; types_are = c.in-Some.is; appended = ensures.appended; stays = ensures.stays } in
+    rw (← c.self.view_is) (λ told fine agrees header most right. ends_typed call told agrees header most right)
+
+pub returns-in-Err-Fault-clause-content : goal.returns-in-Err-Fault-clause-content
+returns-in-Err-Fault-clause-content g c = rw (← c.self.view_is) c.keep_record.ensures.stays.content

@@ -15,6 +15,7 @@ use Rattle.channel.proofs.Sounds.{sound_refused, room_refused}
 use Rattle.channel.proofs.Prepared.{room_for_nothing}
 use Rattle.channel.proofs.Parted.{core_stored, place_low, room_full, sound_full, sound_refused_part, sound_stored}
 use Rattle.channel.proofs.PartImages.{agrees_with, core_refused, for_some, holds_either, holds_if}
+use Rattle.channel.proofs.ShownParts.{parts_held}
 use Rattle.channel.proofs.channel.Channel.store_part.Goals as goal
 
 -- ---- the channel still holds what it held
@@ -199,3 +200,46 @@ returns-in-Err-Fault-clause-no_event g c =
     core_refused g.D.Disk.tells g.D.Disk.reads g.D.Disk.leaves _ files c.args.number c.args.next_id rs c.store_chunk.result
     (c.self.invariant.0.on_disk told c.if-self.false) c.chunk.ensures.part stored told agrees next
     (λ f. g.met.D.Disk.reads_left files.disk f told) c.in-Err-Fault.ensures.numbers.0 c.store_chunk.ensures.unconfirmed)
+
+pub returns-in-Some-take-clause-parts : goal.returns-in-Some-take-clause-parts
+returns-in-Some-take-clause-parts g c =
+    let rs = c.in-Some.part in
+    let is : c.self.inside.prepared ≡ Some rs = search rules in
+    let next = subst (λ (s : ChannelState g.row.D.Denot). c.args.number ≡ last_part s + 1) (sym c.self.view_is) c.requires.number in
+    let stored = subst (λ (b : List ℕ). IsStored g.D.Disk.tells g.D.Disk.reads g.D.Disk.leaves c.self.inside.files c.store_chunk.new.self c.args.number b c.args.next_id
+    c.store_chunk.result) c.chunk.ensures.bytes c.store_chunk.ensures.stored in
+    rw (← c.self.view_is) (λ told unfailed agrees header most right le own image left.
+    parts_held g.D.Disk.reads g.D.Disk.leaves _ (c.self.invariant.0.on_disk told c.if-self.false) agrees header most right g.D.Disk.tells c.store_chunk.new.self c.args.number c.args.next_id rs
+    _ c.store_chunk.result is c.chunk.ensures.part stored told next image left le own)
+
+pub returns-in-Err-Full-clause-parts : goal.returns-in-Err-Full-clause-parts
+returns-in-Err-Full-clause-parts g c =
+    let rs = c.in-Some.part in
+    let is : c.self.inside.prepared ≡ Some rs = search rules in
+    let next = subst (λ (s : ChannelState g.row.D.Denot). c.args.number ≡ last_part s + 1) (sym c.self.view_is) c.requires.number in
+    let stored = subst (λ (b : List ℕ). IsStored g.D.Disk.tells g.D.Disk.reads g.D.Disk.leaves c.self.inside.files c.store_chunk.new.self c.args.number b c.args.next_id
+    c.store_chunk.result) c.chunk.ensures.bytes c.store_chunk.ensures.stored in
+    rw (← c.self.view_is) (λ told unfailed agrees header most right le own image left.
+    parts_held g.D.Disk.reads g.D.Disk.leaves _ (c.self.invariant.0.on_disk told c.if-self.false) agrees header most right g.D.Disk.tells c.store_chunk.new.self c.args.number c.args.next_id rs
+    _ c.store_chunk.result is c.chunk.ensures.part stored told next image left le own)
+
+pub returns-in-Err-Fault-clause-parts : goal.returns-in-Err-Fault-clause-parts
+returns-in-Err-Fault-clause-parts g c =
+    let rs = c.in-Some.part in
+    let is : c.self.inside.prepared ≡ Some rs = search rules in
+    let next = subst (λ (s : ChannelState g.row.D.Denot). c.args.number ≡ last_part s + 1) (sym c.self.view_is) c.requires.number in
+    let stored = subst (λ (b : List ℕ). IsStored g.D.Disk.tells g.D.Disk.reads g.D.Disk.leaves c.self.inside.files c.store_chunk.new.self c.args.number b c.args.next_id
+    c.store_chunk.result) c.chunk.ensures.bytes c.store_chunk.ensures.stored in
+    rw (← c.self.view_is) (λ told unfailed agrees header most right le own image left.
+    parts_held g.D.Disk.reads g.D.Disk.leaves _ (c.self.invariant.0.on_disk told c.if-self.false) agrees header most right g.D.Disk.tells c.store_chunk.new.self c.args.number c.args.next_id rs
+    _ c.store_chunk.result is c.chunk.ensures.part stored told next image left le own)
+
+pub returns-in-Some-take-clause-content : goal.returns-in-Some-take-clause-content
+returns-in-Some-take-clause-content g c =
+    let rs = c.in-Some-take.part in
+    let files = c.store_chunk.new.self in
+    let bytes : c.chunk.result.now ≡ chunk_for rs = search rules in
+    let is : c.self.inside.prepared ≡ Some rs = search rules in
+    let stored = subst (λ (b : List ℕ). IsStored g.D.Disk.tells g.D.Disk.reads g.D.Disk.leaves c.self.inside.files files c.args.number b c.args.next_id
+    (Ok c.in-Ok.place)) bytes c.in-Ok.ensures.stored in
+    rw (← c.self.view_is) (λ told. for_some _ _ rs is (c.in-Ok.place, stored.content told))
