@@ -36,29 +36,6 @@ pub record IsThere {D : Type 0} (reads : D → ℕ → List ℕ) (leaves : D →
   pub whole : HasWholeChunks (reads new.disk)
   pub types : FileStays 1 (reads old.disk) (reads new.disk) (leaves old.disk) (leaves new.disk)
 
-module _ {D : Type 0} {tells : Bool} {reads : D → ℕ → List ℕ} (leaves : D → ℕ → List ℕ → Bool) {old : ChannelState D} (new : Channel D) (was : IsSound tells reads old)
-    (none : old.rows ≡ empty) (ending : Ending) (failed : Bool) where
-  on_disk_dropped : IsOnDisk reads old → IsThere reads leaves old.files new → IsOnDisk reads (called old new old.types ending failed old.tried)
-  on_disk_dropped on there = record {
-    of_disk = there.of_disk;
-    whole = there.whole;
-    rows = λ id row is. absurd (no_row old.rows id row none is);
-    before = λ _ id row is. absurd (no_row old.rows id row none is);
-    types = subst (λ (bytes : List ℕ). IfSome old.types (λ log. IsOf log bytes)) (sym there.types.reads) on.types;
-  }
-
-  pub sound_dropped : old.failed ≡ false → new.sizes ≡ old.files.sizes → (IsTrue tells → failed ≡ false → IsThere reads leaves old.files new)
-      → IsSound tells reads (called old new old.types ending failed old.tried)
-  sound_dropped fine sizes there = record {
-    number = was.number;
-    channels = was.channels;
-    sizes = subst IsInRange (sym sizes) was.sizes;
-    rows = λ id row is. absurd (no_row old.rows id row none is);
-    types = was.types;
-    types_file = was.types_file;
-    on_disk = λ told sound. on_disk_dropped (was.on_disk told fine) (there told sound);
-  }
-
 -- a channel that failed stores nothing more
 pub room_failed : {D : Type 0} {old : ChannelState D} {spare : ℕ} (new : Channel D) (ending : Ending) (failed : Bool) → HasRoom old spare → failed ≡ true
     → HasRoom (called old new old.types ending failed old.tried) spare

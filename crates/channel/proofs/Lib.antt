@@ -20,3 +20,10 @@ pub mod FromShows
 pub mod PartShows
 pub mod ShownParts
 pub mod ShownDropped
+pub mod Left
+pub mod LeftCalls
+pub mod LeftWrites
+pub mod Turns
+pub mod Rest
+pub mod Before
+pub mod Taken

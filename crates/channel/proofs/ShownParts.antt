@@ -24,9 +24,14 @@ use Rattle.channel.specs.State.{ChannelState}
 use Rattle.channel.proofs.FromShows.{ends_from_shows}
 use Rattle.channel.proofs.PartShows.{has_part_from_shows}
 
-numbers_to : (image : ℕ → List ℕ) (files : List (ℕ × ℕ)) (last : ℕ) (ranges : List Range) → AllWithin files last ranges → AllUpTo last (map (chunk_at image) ranges)
+pub numbers_to : (image : ℕ → List ℕ) (files : List (ℕ × ℕ)) (last : ℕ) (ranges : List Range) → AllWithin files last ranges → AllUpTo last (map (chunk_at image) ranges)
 numbers_to image files last [] all = tt
 numbers_to image files last (r ∷ ranges) all = (all.1.0, numbers_to image files last ranges all.1.1)
+
+-- no chunk that is read has a number above the last part
+pub all_read_to : {D : Type 0} (reads : D → ℕ → List ℕ) (c : ChannelState D) → IsOnDisk reads c → AllUpTo (last_part c) (content_of (reads c.files.disk))
+all_read_to reads c on = numbers_to (reads c.files.disk) c.files.transactions.inventory.state.files (last_part c) (ranges_of (payloads_of (reads c.files.disk 0)))
+    (all_fit (payloads_of (reads c.files.disk 0)) c.files.transactions.inventory.state on.of_disk.kept.inventory).within
 
 module _ {D : Type 0} (reads : D → ℕ → List ℕ) (leaves : D → ℕ → List ℕ → Bool) (c : ChannelState D) (on : IsOnDisk reads c) (agrees : AgreesWithImages reads leaves c)
     (header : c.files.transactions.log.header ≡ log_header c.channels c.number) (most : ℕ) (right : AreRightTo c.channels c.number most (last_part c) (content_of (reads c.files.disk))) where

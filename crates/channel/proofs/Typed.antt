@@ -31,7 +31,7 @@ use Rattle.channel.specs.Core.{core_of, last_part, log_next_id, payloads_kept, t
 use Rattle.channel.specs.OnDisk.{AgreesWithImages, HoldsChannel, HoldsWith}
 use Rattle.channel.specs.Sound.{IsSound, HasRoom}
 use Rattle.channel.proofs.Images.{holds_shown, kept_in}
-use Rattle.channel.proofs.OnDisks.{KeepsRows, core_still, on_disk_still}
+use Rattle.channel.proofs.OnDisks.{KeepsRows, core_still, on_disk_still, waits_same}
 use Rattle.channel.proofs.Sounds.{SameFiles, called, keeps_rows, room_called, sound_called}
 
 -- the log with one record more, of so many bytes
@@ -77,7 +77,7 @@ module _ {D A : Type 0} {tells : Bool} {reads : D → ℕ → List ℕ} {leaves 
   -- ---- the channel
 
   module _ (ending : Ending) (failed : Bool) (tried : Option Tried) where
-    keeps : IsTrue tells → KeepsRows reads old (called old new (Some log_now) ending failed tried)
+    pub keeps : IsTrue tells → KeepsRows reads old (called old new (Some log_now) ending failed tried)
     keeps told = keeps_rows old new (Some log_now) ending failed tried reads same_files (call.stays.content told)
 
     pub sound_typed : old.number ≡ 0 → log_now.file ≡ log.file → (IsTrue tells → failed ≡ false → IsOf log_now (reads new.disk 1))
@@ -87,7 +87,8 @@ module _ {D A : Type 0} {tells : Bool} {reads : D → ℕ → List ℕ} {leaves 
         (file ∙ subst (λ (o : Option LogState). IfSome o (λ log. log.file ≡ 1)) call.types_are call.was.types_file)
         (λ told fine.
         on_disk_still reads old (called old new (Some log_now) ending failed tried) (keeps told)
-        (call.was.on_disk told call.sound) (call.stays.of_disk told) (there told fine))
+        (call.was.on_disk told call.sound) (call.stays.of_disk told) (there told fine)
+        (waits_same reads old (called old new (Some log_now) ending failed tried) (keeps told) (call.was.on_disk told call.sound) (ap (λ (t : Transactions). t.inventory.state) call.stays.transactions)))
 
     pub room_typed : (spare : ℕ) → HasRoom old spare → HasRoom (called old new (Some log_now) ending failed tried) spare
     room_typed spare room = room_called old new (Some log_now) ending failed tried spare room same_files (λ _. call.sound)

@@ -12,3 +12,7 @@ pub mod Full
 pub mod Images
 pub mod ChunkRule
 pub mod Shown
+pub mod Left
+pub mod Turns
+pub mod Stages
+pub mod Given

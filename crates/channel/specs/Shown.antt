@@ -1,5 +1,5 @@
 -- What an image of a channel's disk shows at a store's number.
-use Rattle.std.specs.Prelude.{◌≡◌, ◌⊎◌, ℕ, ◌+◌, List, option_map, Option}
+use Rattle.std.specs.Prelude.{◌≡◌, ◌⊎◌, ℕ, ◌+◌, ◌-◌, List, option_map, Option}
 use Rattle.graph_model.specs.Graph.{entity_of, or_else}
 use Rattle.graph_model.specs.declared.entity.Entity.{Entity}
 use Rattle.graph_model.specs.declared.entity.Record.{Record}
@@ -12,7 +12,7 @@ use Rattle.channel.specs.Images.{HasLog, Image, next_at, state_of}
 use Rattle.channel.specs.ChunkRule.{HasRightChunks}
 use Rattle.channel.specs.OnDisk.{entity_at}
 use Rattle.channel.specs.State.{ChannelState}
-use Rattle.channel.specs.Core.{last_part, log_next_id}
+use Rattle.channel.specs.Core.{last_part, log_next_id, next_before}
 
 -- what the disk of a channel holds at a store's number: an entity of each id, and the next id
 pub record DiskTable : Type 0 where
@@ -61,3 +61,7 @@ disk_at m image = record { entities = λ (x : ℕ). entity_at image m x; next_id
 -- what the disk of a channel holds at its last part
 abbrev pub disk_held : {D : Type 0} → (D → ℕ → List ℕ) → ChannelState D → DiskTable
 disk_held reads c = disk_in (last_part c) (content_of (reads c.files.disk)) (log_next_id c)
+
+-- and at the number before
+abbrev pub disk_before : {D : Type 0} → (D → ℕ → List ℕ) → ChannelState D → DiskTable
+disk_before reads c = disk_in (last_part c - 1) (content_of (reads c.files.disk)) (next_before c)

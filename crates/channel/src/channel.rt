@@ -9,14 +9,15 @@ ghost use Rattle.channel_files.specs.Channel.{IsInRange, IsOfDisk};
 ghost use Rattle.channel_files.specs.Images.{EachAsRead};
 ghost use Rattle.channel_files.specs.Whole.{HasWholeChunks};
 ghost use Rattle.channel.specs.Core.{core_of, last_part};
-ghost use Rattle.channel.specs.OnDisk.{AgreesWithImages, HoldsChannel};
+ghost use Rattle.channel.specs.OnDisk.{HoldsChannel};
+ghost use Rattle.channel.specs.Left.{EndsOrTried, HoldsOrTried, IsLeft};
 ghost use Rattle.channel.specs.Sound.{IsSound};
 ghost use Rattle.channel_files.specs.Chunks.{content_of};
 ghost use Rattle.channel.specs.Images.{log_header};
 ghost use Rattle.channel.specs.ChunkRule.{AreRightTo};
-ghost use Rattle.channel.specs.Shown.{EndsAt, disk_held};
 
 use crate::part::{Part, Slot, zeros};
+use crate::phase::Stage;
 use channel_files::{ChannelFiles, Sizes};
 use core_steps::Ending;
 use entity_index::EntityIndex;
@@ -54,6 +55,7 @@ pub struct Channel<D: Disk> {
     pub(crate) prepared: Option<Part>,
     /// What the last part replaced, until it is confirmed.
     pub(crate) replaced: Vec<Slot>,
+    pub(crate) phase: Stage,
     pub(crate) ending: Ending,
     pub(crate) failed: bool,
     pub(crate) tried: Option<Attempt>,
@@ -65,6 +67,7 @@ impl<D: Disk> Model for Channel<D> {
     ghost use Rattle.channel.specs.State.{ChannelState};
     ghost use Rattle.channel.specs.Attempts.{tried_of};
     ghost use Rattle.channel.specs.Sound.{IsSound, HasRoom};
+    ghost use Rattle.channel.specs.Left.{IsLeft};
 
     ghost Value = { ChannelState D };
 
@@ -83,6 +86,7 @@ impl<D: Disk> Model for Channel<D> {
       rows = c.index.contents;
       prepared = c.prepared;
       replaced = c.replaced.items;
+      phase = c.phase;
       ending = c.ending;
       failed = c.failed;
       tried = tried_of c.window.items c.tried;
@@ -96,10 +100,11 @@ impl<D: Disk> Model for Channel<D> {
       rows = c.index.contents;
       prepared = c.prepared;
       replaced = c.replaced.items;
+      phase = c.phase;
       ending = c.ending;
       failed = c.failed;
       tried = tried_of c.window.items c.tried;
-    } in IsSound D.tells D.reads state × HasRoom state c.index.spare × (length c.window.items ≡ 1048576) };
+    } in IsSound D.tells D.reads state × HasRoom state c.index.spare × (length c.window.items ≡ 1048576) × IsLeft D.tells D.reads D.leaves state };
 }
 
 /// A channel was not made, for want of memory.
@@ -127,6 +132,11 @@ impl<D: Disk> Channel<D> {
         requires of_disk { IsTrue D.tells → IsOfDisk log (D.reads disk) }
         requires whole { IsTrue D.tells → HasWholeChunks (D.reads disk) }
         requires types_of_disk { IsTrue D.tells → IfSome types (λ log. IsOf log (D.reads disk 1)) }
+        requires header { log.log.header ≡ log_header count number }
+        requires right { IsTrue D.tells → AreRightTo count number log.inventory.state.next_id log.inventory.state.last (content_of (D.reads disk)) }
+        // A stop leaves the logs that are read, and below the inventory's lengths the bytes that are read.
+        requires as_read { IsTrue D.tells → EachAsRead log (D.reads disk) (D.leaves disk) }
+        requires types_as_read { IsTrue D.tells → IfSome types (λ log. Each (D.leaves disk 1) (IsLogOf log.header (payloads_of (D.reads disk 1)))) }
 
         ensures ok { IfOk result (λ c. c ≡ record {
           number = number;
@@ -136,6 +146,7 @@ impl<D: Disk> Channel<D> {
           rows = finite.empty;
           prepared = None;
           replaced = [];
+          phase = Stage.Idle 0;
           ending = Sound;
           failed = false;
           tried = None;
@@ -154,6 +165,7 @@ impl<D: Disk> Channel<D> {
             index: EntityIndex::new(alloc),
             prepared: None,
             replaced: Vec::new(alloc),
+            phase: Stage::Idle { cycle: 0 },
             ending: Ending::Sound,
             failed: false,
             tried: None,
@@ -165,11 +177,11 @@ impl<D: Disk> Channel<D> {
     pub fn stands(&self)
         ensures sound { IsSound D.tells D.reads self.now }
         ensures read { IsTrue D.tells → self.now.failed ≡ false → HoldsChannel D.reads self.now (D.reads self.now.files.disk) }
-        ensures images { IsTrue D.tells → self.now.failed ≡ false → AgreesWithImages D.reads D.leaves self.now → EachImage (D.leaves self.now.files.disk) (HoldsChannel D.reads self.now) }
-        // Each image ends with what the disk holds, where the chunks keep the rule.
-        ensures ends { IsTrue D.tells → self.now.failed ≡ false → AgreesWithImages D.reads D.leaves self.now → self.now.files.transactions.log.header ≡ log_header self.now.channels self.now.number
-            → (most : ℕ) → AreRightTo self.now.channels self.now.number most (last_part self.now) (content_of (D.reads self.now.files.disk))
-            → EachImage (D.leaves self.now.files.disk) (EndsAt self.now.channels self.now.number (last_part self.now) most (disk_held D.reads self.now)) }
+        ensures left { IsLeft D.tells D.reads D.leaves self.now }
+        // At any moment each image has what the channel stands for, or this and what it tried in vain.
+        ensures images { IsTrue D.tells → EachImage (D.leaves self.now.files.disk) (HoldsOrTried D.reads self.now) }
+        // It ends with what the disk holds, or has this and the part that was tried.
+        ensures ends { IsTrue D.tells → EachImage (D.leaves self.now.files.disk) (EndsOrTried D.reads self.now) }
     {
         let _number = self.number;
     }
@@ -193,6 +205,13 @@ impl<D: Disk> Channel<D> {
         ensures { result ≡ self.now.ending }
     {
         self.ending
+    }
+
+    /// Whether a call of the disk failed. Such a channel makes no further one.
+    pub fn failed(&self) -> bool
+        ensures { result ≡ self.now.failed }
+    {
+        self.failed
     }
 
     /// How many ids the table has.

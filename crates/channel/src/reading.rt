@@ -3,7 +3,8 @@ ghost use Rattle.std.specs.Prelude.{◌≡◌, ◌≤◌, ◌↔◌, true, false
 ghost use Rattle.store_io.specs.Disk.{Rose};
 ghost use Rattle.graph_model.specs.Graph.{entity_of, lists};
 ghost use Rattle.entity_form.specs.Spelling.{entity_bytes};
-ghost use Rattle.channel.specs.Core.{core_of};
+ghost use Rattle.channel.specs.Core.{core_of, told_of};
+ghost use Rattle.channel.specs.Turns.{IsTurn};
 ghost use Rattle.channel.specs.Faults.{IsFaultOf, IsGoneOrFault, ending_after, failed_after};
 ghost use Rattle.channel.specs.OnDisk.{SameDisk};
 
@@ -23,6 +24,8 @@ impl<D: Disk> Channel<D> {
         ensures within { IfOk result (λ n. n ≤ length out.new) }
         ensures gone { IsErrOf result (ChannelFault.Gone id) ↔ (lists (core_of D.reads self.old).table id ≡ false) }
         ensures fault { IfErr result (IsFaultOf id) }
+        // Where the disk tells, the id is one of the table.
+        ensures turn { (IsTrue D.tells → lists (core_of D.reads self.old).table id ≡ true) → IsTurn (told_of D.tells D.reads D.faults self.old) (told_of D.tells D.reads D.faults self.new) }
         ensures never_changed { IsTrue D.tells → IfErr result (IsGoneOrFault id) }
         ensures rest { self.new ≡ record self.old {
           files = record self.old.files { disk = self.new.files.disk };

@@ -5,12 +5,11 @@ ghost use Rattle.store_io.specs.Whole.{EachImage};
 ghost use Rattle.core_steps.specs.Told.{TriedType};
 ghost use Rattle.channel_files.specs.Heads.{full_record};
 ghost use Rattle.channel_files.specs.Chunks.{content_of};
-ghost use Rattle.channel.specs.ChunkRule.{AreRightTo};
-ghost use Rattle.channel.specs.Core.{core_of, last_part, types_kept};
-ghost use Rattle.channel.specs.Images.{log_header};
+ghost use Rattle.channel.specs.Core.{core_of, last_part, log_next_id, told_of, types_kept};
+ghost use Rattle.channel.specs.Turns.{IsTurn};
 ghost use Rattle.channel.specs.Shown.{EndsAt, disk_held};
 ghost use Rattle.channel.specs.Faults.{UnlessFault, ending_after, failed_after};
-ghost use Rattle.channel.specs.OnDisk.{AgreesWithImages, HoldsChannel, HoldsWith};
+ghost use Rattle.channel.specs.OnDisk.{HoldsChannel, HoldsWith};
 
 use crate::channel::{Attempt, Channel};
 use crate::fault::{ChannelFault, note};
@@ -34,17 +33,16 @@ impl<D: Disk> Channel<D> {
         requires most { length text.now ≤ 1048576 }
 
         ensures kept { IsTrue D.tells → OnOk result (types_kept D.reads self.new ≡ types_kept D.reads self.old ++ text.now ∷ []) }
-        ensures not_kept { IsTrue D.tells → AgreesWithImages D.reads D.leaves self.old → OnErr result (types_kept D.reads self.new ≡ types_kept D.reads self.old) }
+        ensures not_kept { IsTrue D.tells → OnErr result (types_kept D.reads self.new ≡ types_kept D.reads self.old) }
         ensures core { IsTrue D.tells → core_of D.reads self.new ≡ core_of D.reads self.old }
         // Whatever was answered, each image has what the channel stands for, and the record or not.
-        ensures stop { IsTrue D.tells → self.old.failed ≡ false → AgreesWithImages D.reads D.leaves self.old
+        ensures stop { IsTrue D.tells → self.old.failed ≡ false
             → EachImage (D.leaves self.new.files.disk) (λ image. HoldsChannel D.reads self.old image ⊎ HoldsWith D.reads self.old (types_kept D.reads self.old ++ text.now ∷ []) image) }
-        // The chunks that are read stay, and each image ends with what the disk held, where they keep the rule.
+        // The chunks that are read stay, and each image ends with what the disk held.
         ensures content { IsTrue D.tells → content_of (D.reads self.new.files.disk) ≡ content_of (D.reads self.old.files.disk) }
-        ensures ends { IsTrue D.tells → self.old.failed ≡ false → AgreesWithImages D.reads D.leaves self.old → self.old.files.transactions.log.header ≡ log_header self.old.channels self.old.number
-            → (most : ℕ) → AreRightTo self.old.channels self.old.number most (last_part self.old) (content_of (D.reads self.old.files.disk))
-            → EachImage (D.leaves self.new.files.disk) (EndsAt self.old.channels self.old.number (last_part self.old) most (disk_held D.reads self.old)) }
-        ensures images { IsTrue D.tells → AgreesWithImages D.reads D.leaves self.old → UnlessFault result (AgreesWithImages D.reads D.leaves self.new) }
+        ensures ends { IsTrue D.tells → self.old.failed ≡ false
+            → EachImage (D.leaves self.new.files.disk) (EndsAt self.old.channels self.old.number (last_part self.old) (log_next_id self.old) (disk_held D.reads self.old)) }
+        ensures turn { IsTurn (told_of D.tells D.reads D.faults self.old) (told_of D.tells D.reads D.faults self.new) }
         ensures tried { self.old.failed ≡ false → IsErrOf result ChannelFault.Fault → self.new.tried ≡ Some (TriedType text.now) }
         ensures not_tried { UnlessFault result (self.new.tried ≡ self.old.tried) }
         ensures rest { self.new ≡ record self.old {

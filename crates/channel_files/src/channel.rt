@@ -53,7 +53,7 @@ impl<D: Disk> ChannelFiles<D> {
     ghost use Rattle.channel_files.specs.Shows.{Shows, HasTables, HasTable, HasStored};
     ghost use Rattle.channel_files.specs.Heads.{with_new_head, with_head, heads_made, place_of, chunk_of, full_record, full_at_first, full_behind_creation};
     ghost use Rattle.channel_files.specs.Stores.{IsStore};
-    ghost use Rattle.channel_files.specs.Faults.{IsFaultOrChanged, UnlessFault};
+    ghost use Rattle.channel_files.specs.Faults.{IsFaultOrChanged, IsFaultOrFull, UnlessFault};
     ghost use Rattle.channel_files.specs.Whole.{HasWholeChunks};
     ghost use Rattle.channel_files.specs.Outcomes.{IsStored, IsDropped, IsAppended, Stays, FileStays};
 
@@ -128,6 +128,11 @@ impl<D: Disk> ChannelFiles<D> {
         ensures stored { IsStored D.tells D.reads D.leaves self.old self.new number chunk.now next_id result }
         ensures whole_chunks { IsTrue D.tells → HasWholeChunks (D.reads self.old.disk) → UnlessFault result (HasWholeChunks (D.reads self.new.disk)) }
         ensures header { self.new.transactions.log.header ≡ self.old.transactions.log.header }
+        // The log and the number of its last file do not fall; `Full` behind a new file comes with the log as it is then.
+        ensures grows { self.old.transactions.log.length ≤ self.new.transactions.log.length }
+        ensures created { self.old.transactions.inventory.state.created ≤ self.new.transactions.inventory.state.created }
+        ensures full_log { full_at_first self.old.transactions.inventory.state self.old.transactions.log.length self.old.sizes.maximum number (length chunk.now) ≡ None
+            → IfSome (full_behind_creation self.old.transactions.inventory.state self.old.transactions.log.length self.old.sizes.maximum (length chunk.now)) (λ n. IfErr result (IsFaultOrFull (λ m. self.new.transactions.log.length ≡ n))) }
         // File 1, which has no chunk and no entry, is as it was.
         ensures types { IsTrue D.tells → FileStays 1 (D.reads self.old.disk) (D.reads self.new.disk) (D.leaves self.old.disk) (D.leaves self.new.disk) }
         ensures numbers { OnErr result ((self.new.transactions.inventory.state.last ≡ self.old.transactions.inventory.state.last)

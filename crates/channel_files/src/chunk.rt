@@ -56,6 +56,8 @@ fn store_behind_head<D: Disk>(
     ensures full { IfSome (full_record transactions.old.log.length) (λ n. IsErrOf result (FilesFault.Full n) × (disk.new ≡ disk.old)) }
     ensures not_full { full_record transactions.old.log.length ≡ None → IfErr result (λ e. e ≡ FilesFault.Fault) }
     ensures header { transactions.new.log.header ≡ transactions.old.log.header }
+    ensures grows { transactions.old.log.length ≤ transactions.new.log.length }
+    ensures created { transactions.old.inventory.state.created ≤ transactions.new.inventory.state.created }
     // File 1 is as it was.
     ensures types { IsTrue D.tells → FileStays 1 (D.reads disk.old) (D.reads disk.new) (D.leaves disk.old) (D.leaves disk.new) }
     ensures faults { D.faults disk.old ≤ D.faults disk.new }
@@ -105,6 +107,9 @@ fn store_in_new_head<D: Disk>(
         → IfSome (full_record (transactions.old.log.length + 14)) (λ n. IsErr result × IfErr result (IsFaultOrFull (λ m. (m ≡ n) × (transactions.new.inventory.state ≡ with_new_head transactions.old.inventory.state)))) }
     ensures not_full { full_creation transactions.old.inventory.state transactions.old.log.length ≡ None → full_record (transactions.old.log.length + 14) ≡ None → IfErr result (λ e. e ≡ FilesFault.Fault) }
     ensures header { transactions.new.log.header ≡ transactions.old.log.header }
+    ensures grows { transactions.old.log.length ≤ transactions.new.log.length }
+    ensures created { transactions.old.inventory.state.created ≤ transactions.new.inventory.state.created }
+    ensures full_log { full_creation transactions.old.inventory.state transactions.old.log.length ≡ None → IfSome (full_record (transactions.old.log.length + 14)) (λ n. IfErr result (IsFaultOrFull (λ m. transactions.new.log.length ≡ n))) }
     // File 1 is as it was.
     ensures types { IsTrue D.tells → FileStays 1 (D.reads disk.old) (D.reads disk.new) (D.leaves disk.old) (D.leaves disk.new) }
     ensures faults { D.faults disk.old ≤ D.faults disk.new }
@@ -159,6 +164,10 @@ pub(crate) fn store<D: Disk>(
     ensures not_full { full_at_first transactions.old.inventory.state transactions.old.log.length maximum number (length chunk.now) ≡ None
         → full_behind_creation transactions.old.inventory.state transactions.old.log.length maximum (length chunk.now) ≡ None → IfErr result (λ e. e ≡ FilesFault.Fault) }
     ensures header { transactions.new.log.header ≡ transactions.old.log.header }
+    ensures grows { transactions.old.log.length ≤ transactions.new.log.length }
+    ensures created { transactions.old.inventory.state.created ≤ transactions.new.inventory.state.created }
+    ensures full_log { full_at_first transactions.old.inventory.state transactions.old.log.length maximum number (length chunk.now) ≡ None
+        → IfSome (full_behind_creation transactions.old.inventory.state transactions.old.log.length maximum (length chunk.now)) (λ n. IfErr result (IsFaultOrFull (λ m. transactions.new.log.length ≡ n))) }
     // File 1 is as it was.
     ensures types { IsTrue D.tells → FileStays 1 (D.reads disk.old) (D.reads disk.new) (D.leaves disk.old) (D.leaves disk.new) }
     ensures faults { D.faults disk.old ≤ D.faults disk.new }
