@@ -15,4 +15,3 @@ pub mod FoundEntities
 pub mod WholeChunks
 pub mod FileOne
 pub mod LiveFiles
-pub mod LastStores

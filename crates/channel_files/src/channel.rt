@@ -37,7 +37,7 @@ impl<D> Model for ChannelFiles<D> {
 
 impl<D: Disk> ChannelFiles<D> {
     ghost use Rattle.std.specs.Prelude.{◌≡◌, ◌≢◌, ◌⊎◌, ◌≤◌, ◌<◌, ◌-◌, ◌+◌, ◌^◌, ◌++◌, [], ◌∷◌, true, ℕ, List, IsTrue, IsErr, length, take, drop, OnOk, OnErr, IfOk, IfErr, IfSome, IsErrOf, Some, None};
-    ghost use Rattle.store_io.specs.Disk.{Only, OthersStay, Rose};
+    ghost use Rattle.store_io.specs.Disk.{Only, OthersStay, Rose, raised};
     ghost use Rattle.store_io.specs.Whole.{EachImage, IsClean};
     ghost use Rattle.gated_log.specs.Log.{payloads_of, IsLogOf, IsBeforeOrAfter, Each};
     ghost use Rattle.gated_log.specs.Of.{IsOf};
@@ -143,6 +143,7 @@ impl<D: Disk> ChannelFiles<D> {
         ensures unconfirmed { self.new.confirmed ≡ self.old.confirmed }
         ensures faults { D.faults self.old.disk ≤ D.faults self.new.disk }
         ensures cause { IsErrOf result FilesFault.Fault → Rose (D.faults self.old.disk) (D.faults self.new.disk) }
+        ensures calm { OnOk result (D.faults self.new.disk ≡ D.faults self.old.disk) }
         ensures read_calls { D.read_calls self.new.disk ≡ D.read_calls self.old.disk }
     {
         store(
@@ -181,6 +182,7 @@ impl<D: Disk> ChannelFiles<D> {
         ensures sizes { self.new.sizes ≡ self.old.sizes }
         ensures faults { D.faults self.old.disk ≤ D.faults self.new.disk }
         ensures cause { IsErrOf result FilesFault.Fault → Rose (D.faults self.old.disk) (D.faults self.new.disk) }
+        ensures calm { OnOk result (D.faults self.new.disk ≡ D.faults self.old.disk) }
         ensures read_calls { D.read_calls self.new.disk ≡ D.read_calls self.old.disk }
     {
         drop_last(&mut self.disk, &mut self.transactions, &mut self.confirmed)
@@ -215,6 +217,8 @@ impl<D: Disk> ChannelFiles<D> {
         ensures leaves { IsTrue D.tells → D.leaves self.new.disk ≡ D.leaves self.old.disk }
         ensures faults { D.faults self.old.disk ≤ D.faults self.new.disk }
         ensures cause { IsErrOf result FilesFault.Fault → Rose (D.faults self.old.disk) (D.faults self.new.disk) }
+        ensures calm { OnOk result (D.faults self.new.disk ≡ D.faults self.old.disk) }
+        ensures read_calls { D.read_calls self.new.disk ≡ raised (D.read_calls self.old.disk) }
     {
         let _inventory = self.transactions.inventory();
         match data_file::read_entity(&mut self.disk, file as u32, at, header, out) {
@@ -242,6 +246,7 @@ impl<D: Disk> ChannelFiles<D> {
         ensures stays { Stays D.tells D.reads D.leaves self.old self.new }
         ensures faults { D.faults self.old.disk ≤ D.faults self.new.disk }
         ensures cause { IsErrOf result FilesFault.Fault → Rose (D.faults self.old.disk) (D.faults self.new.disk) }
+        ensures calm { OnOk result (D.faults self.new.disk ≡ D.faults self.old.disk) }
         ensures read_calls { D.read_calls self.new.disk ≡ D.read_calls self.old.disk }
     {
         append_record(&mut self.disk, log, text)

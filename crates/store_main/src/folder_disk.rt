@@ -1,5 +1,5 @@
 // A folder of the host as a disk.
-ghost use Rattle.std.specs.Prelude.{◌≤◌, OnErr};
+ghost use Rattle.std.specs.Prelude.{◌≡◌, ◌≤◌, OnErr, OnOk};
 ghost use Rattle.store_io.specs.Disk.{Rose};
 
 use crate::handles::Handles;
@@ -57,6 +57,7 @@ impl FolderDisk {
 fn counted<T: Drop>(faults: &mut u64, answer: io::Result<T>) -> Result<T, DiskFailed>
     ensures faults { faults.old ≤ faults.new }
     ensures cause { OnErr result (Rose faults.old faults.new) }
+    ensures calm { OnOk result (faults.new ≡ faults.old) }
 {
     match answer {
         Ok(value) => Ok(value),
