@@ -97,14 +97,14 @@ module _ {D : Type 0} (reads : D → ℕ → List ℕ) (old new : ChannelState D
 
 -- WHAT THE DISK HOLDS
 
-shows_as : (n j m next : ℕ) (d e : DiskTable) (image : ℕ → List ℕ) → e.next_id ≡ d.next_id → ((x : ℕ) → e.entities x ≡ d.entities x) → ShowsAt n j m next d image → ShowsAt n j m next e image
+pub shows_as : (n j m next : ℕ) (d e : DiskTable) (image : ℕ → List ℕ) → e.next_id ≡ d.next_id → ((x : ℕ) → e.entities x ≡ d.entities x) → ShowsAt n j m next d image → ShowsAt n j m next e image
 shows_as n j m next d e image next_is same s =
     record { log = s.log; agrees = s.agrees; next_id = s.next_id ∙ sym next_is; chunks = s.chunks; entities = λ x. s.entities x ∙ sym (same x) }
 
-ends_as : (n j m next : ℕ) (d e : DiskTable) (image : ℕ → List ℕ) → e.next_id ≡ d.next_id → ((x : ℕ) → e.entities x ≡ d.entities x) → EndsAt n j m next d image → EndsAt n j m next e image
+pub ends_as : (n j m next : ℕ) (d e : DiskTable) (image : ℕ → List ℕ) → e.next_id ≡ d.next_id → ((x : ℕ) → e.entities x ≡ d.entities x) → EndsAt n j m next d image → EndsAt n j m next e image
 ends_as n j m next d e image next_is same s = record { last = s.last; shows = shows_as n j m next d e image next_is same s.shows }
 
-has_part_as : (n j m next : ℕ) (part : List Record) (part_next : ℕ) (d e : DiskTable) (image : ℕ → List ℕ) → e.next_id ≡ d.next_id → ((x : ℕ) → e.entities x ≡ d.entities x)
+pub has_part_as : (n j m next : ℕ) (part : List Record) (part_next : ℕ) (d e : DiskTable) (image : ℕ → List ℕ) → e.next_id ≡ d.next_id → ((x : ℕ) → e.entities x ≡ d.entities x)
     → HasPart n j m next part part_next d image → HasPart n j m next part part_next e image
 has_part_as n j m next part part_next d e image next_is same s = record {
   before = shows_as n j m next d e image next_is same s.before;

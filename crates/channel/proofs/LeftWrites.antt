@@ -110,7 +110,7 @@ module _ {D : Type 0} (tells : Bool) (reads : D → ℕ → List ℕ) (leaves : 
   held_still : (x : ℕ) → entity_at (reads files.disk) (last_part c) x ≡ (disk_held reads c).entities x
   held_still x = elim (ends_or_part (reads files.disk) left) [ inl h ↦ h.ends.shows.entities x | inr h ↦ h.before.entities x ]
 
-  stands_parted : StandsForSame reads c part_tried
+  pub stands_parted : StandsForSame reads c part_tried
   stands_parted = record {
     last = last;
     next = next_same;

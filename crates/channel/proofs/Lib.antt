@@ -15,11 +15,10 @@ pub mod Parted
 pub mod PartImages
 pub mod Events
 pub mod Typed
-pub mod Dropped
+pub mod EmptyRows
 pub mod FromShows
 pub mod PartShows
 pub mod ShownParts
-pub mod ShownDropped
 pub mod Left
 pub mod LeftCalls
 pub mod LeftWrites
@@ -27,3 +26,4 @@ pub mod Turns
 pub mod Rest
 pub mod Before
 pub mod Taken
+pub mod Held

@@ -53,7 +53,7 @@ part_right n j next rs part own = record {
 }
 
 -- with a greater next id a chunk is right still
-all_keep_more : (n j next more : ℕ) → next ≤ more → (es : List (List ℕ)) → AllByRecursion (KeepsRule n j next) es → AllByRecursion (KeepsRule n j more) es
+pub all_keep_more : (n j next more : ℕ) → next ≤ more → (es : List (List ℕ)) → AllByRecursion (KeepsRule n j next) es → AllByRecursion (KeepsRule n j more) es
 all_keep_more n j next more le [] all = tt
 all_keep_more n j next more le (e ∷ es) all = (
   record { refs = all.0.refs; type_id = all.0.type_id; own = all.0.own; good = good_id_more next more (header_of e).id le all.0.good },

@@ -26,7 +26,7 @@ use Rattle.entity_index.specs.declared.row.Row.{Row}
 use Rattle.channel.specs.Entities.{chunk_for, header_for}
 use Rattle.channel.specs.Parts.{IsPart, IsRightRecord}
 use Rattle.core_steps.specs.Core.{is_idle}
-use Rattle.channel.specs.Stages.{bit_of, ids_where, is_grey, is_marked, phase_in}
+use Rattle.channel.specs.Stages.{parity_at, ids_where, is_grey, is_marked, phase_in}
 use Rattle.std.specs.List.{AllByRecursion}
 use Rattle.channel_files.specs.Chunks.{Chunk}
 use Rattle.channel_files.specs.Heads.{chunk_of}
@@ -116,7 +116,7 @@ module _ {D : Type 0} (tells : Bool) (reads : D → ℕ → List ℕ) (leaves : 
       (place_live : 0 < length (chunk_for rs) → is_live files.transactions.inventory.state.files place.file ≡ true) (idle : is_idle (phase_in c.phase c.rows) ≡ true)
       (number_is : number ≡ last_part c + 1) (le : log_next_id c ≤ next) (own : AllByRecursion (IsOwn c.channels c.number next) rs) where
     abbrev odd : Bool
-    odd = bit_of c.phase
+    odd = parity_at c.phase
 
     -- the channel once the part is stored
     abbrev pub with_part_stored : ChannelState D

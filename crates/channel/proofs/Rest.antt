@@ -16,7 +16,7 @@ use Rattle.entity_index.specs.declared.row.Row.{Row}
 use Rattle.channel.specs.declared.phase.Stage.{Stage}
 use Rattle.channel.specs.declared.phase.Stage.TheVariants.{Idle, Marking, Sweeping}
 use Rattle.channel.specs.Given.{HasGiven}
-use Rattle.channel.specs.Stages.{FitsStage, bit_of, ids_where, is_grey, is_marked, is_visited, phase_in}
+use Rattle.channel.specs.Stages.{FitsStage, parity_at, ids_where, is_grey, is_marked, is_visited, phase_in}
 use Rattle.channel.specs.Taking.{stored_state}
 use Rattle.channel.proofs.Pins.{has_where, same_set, where_rises}
 
@@ -77,8 +77,8 @@ unmarked xs (core.Idle cycle) r idle = refl
 unmarked xs (core.Marking cycle) r idle = absurd cc
 unmarked xs (core.Sweeping cycle left) r idle = absurd cc
 
-pub fits_stored : (stage : Stage) (before : FinMap nat_cmp Row) (row : Row) → is_idle (phase_in stage before) ≡ true → row.state ≡ stored_state (bit_of stage) → FitsStage stage row
-fits_stored (Idle cycle) before row idle is = record { marked = ap (λ s. s.marked) is; grey = ap (λ s. s.grey) is; visited = ap (λ s. s.left) is }
+pub fits_stored : (stage : Stage) (before : FinMap nat_cmp Row) (row : Row) → is_idle (phase_in stage before) ≡ true → row.state ≡ stored_state (parity_at stage) → FitsStage stage row
+fits_stored (Idle cycle) before row idle is = record { marked = ap (λ s. s.marked) is; grey = ap (λ s. s.grey) is; visited = ap (λ s. s.swept_odd) is }
 fits_stored (Marking cycle) before row idle is = absurd cc
 fits_stored (Sweeping cycle) before row idle is = absurd cc
 

@@ -40,9 +40,9 @@ full_grows old new log types created full =
     elim (or_cases (is_over t.log.length) _ full) [
       | inl over ↦ or_left (is_over u.log.length) _ (over_grows t.log.length u.log.length log over)
       | inr more ↦ or_right (is_over u.log.length) _ (elim (or_cases (is_over_in old.types) files_old more) [
-          | inl over ↦ or_left (is_over_in new.types) files_new (types over)
-          | inr last ↦ or_right (is_over_in new.types) files_new (le-leb (2 ^ 31 - 1) u.inventory.state.created (omega (arith, created, leb-true (2 ^ 31 - 1) t.inventory.state.created last)))
-        ])
+        | inl over ↦ or_left (is_over_in new.types) files_new (types over)
+        | inr last ↦ or_right (is_over_in new.types) files_new (le-leb (2 ^ 31 - 1) u.inventory.state.created (omega (arith, created, leb-true (2 ^ 31 - 1) t.inventory.state.created last)))
+      ])
     ]
 
 types_over : {D : Type 0} (c : ChannelState D) → is_over_in c.types ≡ true → is_full c ≡ true
@@ -120,10 +120,10 @@ creation_over : (s : State) (log m : ℕ) → full_creation s log ≡ Some m →
 creation_over s log m is = elim (cases_Bool (is_over log)) [
   | inl over ↦ inl over
   | inr under ↦ elim (cases_Bool (nat_le (2 ^ 31) (s.created + 1))) [
-      | inl last ↦ inr (le-leb (2 ^ 31 - 1) s.created (omega (arith, leb-true (2 ^ 31) (s.created + 1) last)))
-      | inr more ↦ absurd (none (sym (ap (λ (b : Bool). option_or (if b then Some log else None) (if nat_le (2 ^ 31) (s.created + 1) then Some (2 ^ 31) else None)) under
-          ∙ ap (λ (b : Bool). if b then Some (2 ^ 31) else None) more) ∙ is))
-    ]
+    | inl last ↦ inr (le-leb (2 ^ 31 - 1) s.created (omega (arith, leb-true (2 ^ 31) (s.created + 1) last)))
+    | inr more ↦ absurd (none (sym (ap (λ (b : Bool). option_or (if b then Some log else None) (if nat_le (2 ^ 31) (s.created + 1) then Some (2 ^ 31) else None)) under
+        ∙ ap (λ (b : Bool). if b then Some (2 ^ 31) else None) more) ∙ is))
+  ]
 ]
   where
     none : ◌≡◌ {A = Option ℕ} None (Some m) → ⊥
@@ -187,9 +187,9 @@ module _ {D : Type 0} (tells : Bool) (reads : D → ℕ → List ℕ) (leaves : 
       elim (first_over (nat_lt (2 ^ 63) number) (length chunk == 0) (lacks_room s c.files.sizes.maximum) s log m is) [
         | inl top ↦ inr (one_number m n there.0 ∙ top)
         | inr why ↦ elim why [
-            | inl over ↦ inl (log_over new (ap (λ (f : Channel D). is_over f.transactions.log.length) same ∙ over))
-            | inr last ↦ inl (files_over new (ap (λ (f : Channel D). nat_le (2 ^ 31 - 1) f.transactions.inventory.state.created) same ∙ last))
-          ]
+          | inl over ↦ inl (log_over new (ap (λ (f : Channel D). is_over f.transactions.log.length) same ∙ over))
+          | inr last ↦ inl (files_over new (ap (λ (f : Channel D). nat_le (2 ^ 31 - 1) f.transactions.inventory.state.created) same ∙ last))
+        ]
       ]
 
   pub full_right : IsRight

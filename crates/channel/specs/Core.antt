@@ -79,7 +79,7 @@ module _ {D : Type 0} where
   abbrev pub is_full : ChannelState D → Bool
   is_full c = is_over c.files.transactions.log.length || (is_over_in c.types || nat_le (2 ^ 31 - 1) c.files.transactions.inventory.state.created)
 
-  -- what the channel tells: of the core and of types only where its disk tells what it reads; each store has all channels
+  -- what the channel tells: of the core and of types only where its disk tells what it reads; a log of format 1 names no channels of a store
   abbrev pub told_of : Bool → (D → ℕ → List ℕ) → (D → ℕ) → ChannelState D → Told
   told_of tells reads faults c = record {
     part = cond tells (Some (Channel (core_of reads c))) None;
@@ -88,7 +88,7 @@ module _ {D : Type 0} where
     failed = c.failed;
     full = is_full c;
     next_id = log_next_id c;
-    log_channels = 2 ^ c.channels - 1;
+    log_channels = 0;
     prepared = c.prepared;
     types = cond tells (types_kept reads c) [];
     tried = c.tried;

@@ -4,8 +4,7 @@ use Rattle.store_io.specs.Whole.{EachImage}
 use Rattle.core_steps.specs.Told.{Tried, TriedPart, TriedType}
 use Rattle.channel.specs.Core.{last_part, log_next_id, next_before, types_kept}
 use Rattle.channel.specs.Images.{log_header}
-use Rattle.channel.specs.Shown.{EndsAt, HasPart, ShowsAt, disk_before, disk_held, put_over}
-use Rattle.graph_model.specs.declared.entity.Record.{Record}
+use Rattle.channel.specs.Shown.{EndsAt, HasPart, ShowsAt, disk_before, disk_held}
 use Rattle.channel.specs.OnDisk.{AgreesWithImages, HoldsChannel, HoldsPart, HoldsWith}
 use Rattle.channel.specs.State.{ChannelState}
 
@@ -43,9 +42,3 @@ pub record IsLeft {D : Type 0} (tells : Bool) (reads : D → ℕ → List ℕ) (
   -- once it failed each image has what it stands for, or this and what it tried
   pub images : IsTrue tells → c.failed ≡ true → EachImage (leaves c.files.disk) (HoldsOrTried reads c)
   pub ends : IsTrue tells → c.failed ≡ true → EachImage (leaves c.files.disk) (EndsOrTried reads c)
-
--- what the disk holds gained a part, and what it held before stands at the number before
-abbrev pub HoldsPartMore : {D : Type 0} → (D → ℕ → List ℕ) → ChannelState D → ChannelState D → List Record → Type 0
-HoldsPartMore reads old new part =
-    ((x : ℕ) → (disk_held reads new).entities x ≡ put_over part (disk_held reads old).entities x)
-    × (((x : ℕ) → (disk_before reads new).entities x ≡ (disk_held reads old).entities x) × (next_before new ≡ log_next_id old))

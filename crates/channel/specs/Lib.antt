@@ -16,3 +16,4 @@ pub mod Left
 pub mod Turns
 pub mod Stages
 pub mod Given
+pub mod Holding

@@ -16,9 +16,9 @@ ids_where test rows = map (λ (e : ℕ × Row). e.0) (filter (λ (e : ℕ × Row
 abbrev pub is_odd : ℕ → Bool
 is_odd cycle = nat_eq (cycle % 2) 1
 
--- a row's bit `left` is the parity of the cycle whose sweep visited it last, so that no sweep begins or ends with a pass over all rows
+-- the sweep of this cycle visited the row, which keeps the parity of the last cycle that did
 abbrev pub is_visited : ℕ → Row → Bool
-is_visited cycle row = cond row.state.left (is_odd cycle) (not (is_odd cycle))
+is_visited cycle row = cond row.state.swept_odd (is_odd cycle) (not (is_odd cycle))
 
 -- a visit clears the bit `marked`: what a sweep visited and left in the table was marked
 abbrev pub is_marked : Stage → Row → Bool
@@ -34,20 +34,20 @@ phase_in (Idle cycle) rows = core.Idle cycle
 phase_in (Marking cycle) rows = core.Marking cycle
 phase_in (Sweeping cycle) rows = core.Sweeping cycle (ids_where (λ (row : Row). not (is_visited cycle row)) rows)
 
--- the bit `left` of a row that is stored now
-abbrev pub bit_of : Stage → Bool
-bit_of (Idle cycle) = is_odd cycle
-bit_of (Marking cycle) = is_odd (cycle - 1)
-bit_of (Sweeping cycle) = is_odd cycle
+-- the parity that a row keeps which is stored now: no sweep has to visit it before that of the next cycle, or that of this one where the channel marks
+abbrev pub parity_at : Stage → Bool
+parity_at (Idle cycle) = is_odd cycle
+parity_at (Marking cycle) = is_odd (cycle - 1)
+parity_at (Sweeping cycle) = is_odd cycle
 
 -- neither marked nor grey, and visited in this cycle
 pub record IsAtRest (cycle : ℕ) (row : Row) : Type 0 where
   pub marked : row.state.marked ≡ false
   pub grey : row.state.grey ≡ false
-  pub visited : row.state.left ≡ is_odd cycle
+  pub visited : row.state.swept_odd ≡ is_odd cycle
 
 -- on an Idle channel each row is at rest; on one that marks none was visited in its cycle
 abbrev pub FitsStage : Stage → Row → Type 0
 FitsStage (Idle cycle) row = IsAtRest cycle row
-FitsStage (Marking cycle) row = row.state.left ≡ is_odd (cycle - 1)
+FitsStage (Marking cycle) row = row.state.swept_odd ≡ is_odd (cycle - 1)
 FitsStage (Sweeping cycle) row = Unit {0}

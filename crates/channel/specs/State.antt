@@ -23,6 +23,8 @@ pub record ChannelState (D : Type 0) : Type 0 where
   pub prepared : Option (List Record)
   -- what the last part replaced, until it is confirmed
   pub replaced : List Slot
+  -- the ids whose entities are in memory: none as long as there is no cache. A call that reads or stores says nothing of which they are then
+  pub cached : List ℕ
   -- where it stands in the collection cycles
   pub phase : Stage
   pub ending : Ending

@@ -11,7 +11,7 @@ use Rattle.channel.specs.declared.part.Slot.{Slot}
 
 -- an entity that was just stored is pinned
 abbrev pub stored_state : Bool → State
-stored_state odd = record { pinned = true; marked = false; grey = false; left = odd; next = 0 }
+stored_state odd = record { pinned = true; marked = false; grey = false; swept_odd = odd; next = 0 }
 
 abbrev pub row_at : Bool → ℕ → ℕ → Header → Row
 row_at odd file at header = record { file = file; at = at; header = header; state = stored_state odd }

@@ -4,6 +4,7 @@ ghost use Rattle.std.specs.FinMap as finite;
 ghost use Rattle.store_io.specs.Whole.{EachImage};
 ghost use Rattle.gated_log.specs.Log.{Each, IsLogOf, payloads_of};
 ghost use Rattle.gated_log.specs.Of.{IsOf};
+ghost use Rattle.graph_model.specs.Graph.{lists};
 ghost use Rattle.core_steps.specs.declared.unit.Ending.TheVariants.{Sound};
 ghost use Rattle.channel_files.specs.Channel.{IsInRange, IsOfDisk};
 ghost use Rattle.channel_files.specs.Images.{EachAsRead};
@@ -63,7 +64,7 @@ pub struct Channel<D: Disk> {
 }
 
 impl<D: Disk> Model for Channel<D> {
-    ghost use Rattle.std.specs.Prelude.{◌≡◌, length};
+    ghost use Rattle.std.specs.Prelude.{◌≡◌, [], length};
     ghost use Rattle.channel.specs.State.{ChannelState};
     ghost use Rattle.channel.specs.Attempts.{tried_of};
     ghost use Rattle.channel.specs.Sound.{IsSound, HasRoom};
@@ -86,6 +87,7 @@ impl<D: Disk> Model for Channel<D> {
       rows = c.index.contents;
       prepared = c.prepared;
       replaced = c.replaced.items;
+      cached = [];
       phase = c.phase;
       ending = c.ending;
       failed = c.failed;
@@ -100,6 +102,7 @@ impl<D: Disk> Model for Channel<D> {
       rows = c.index.contents;
       prepared = c.prepared;
       replaced = c.replaced.items;
+      cached = [];
       phase = c.phase;
       ending = c.ending;
       failed = c.failed;
@@ -146,6 +149,7 @@ impl<D: Disk> Channel<D> {
           rows = finite.empty;
           prepared = None;
           replaced = [];
+          cached = [];
           phase = Stage.Idle 0;
           ending = Sound;
           failed = false;
@@ -212,6 +216,13 @@ impl<D: Disk> Channel<D> {
         ensures { result ≡ self.now.failed }
     {
         self.failed
+    }
+
+    /// Whether the table has an id. The disk is not read for it.
+    pub fn has(&self, id: u64) -> bool
+        ensures { result ≡ lists (core_of D.reads self.now).table id }
+    {
+        self.index.row(id).is_some()
     }
 
     /// How many ids the table has.

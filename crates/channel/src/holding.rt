@@ -6,6 +6,7 @@ ghost use Rattle.core_steps.specs.Rows.{channel_step};
 ghost use Rattle.graph_model.specs.declared.entity.Record.{Record};
 ghost use Rattle.channel.specs.Core.{core_of, place_with, told_of};
 ghost use Rattle.channel.specs.Turns.{IsTurn};
+ghost use Rattle.channel.specs.Holding.{holding};
 
 use crate::channel::Channel;
 use core_hands::Hand;
@@ -22,6 +23,7 @@ impl<D: Disk> Channel<D> {
         ensures event { (part : List Record) → channel_step (place_with self.old part) (core_of D.reads self.old) hand.old (Event.Pin id) ≡ Some (core_of D.reads self.new, hand.new) }
         ensures rest { self.new ≡ record self.old { rows = self.new.rows } }
         ensures turn { IsTurn (told_of D.tells D.reads D.faults self.old) (told_of D.tells D.reads D.faults self.new) }
+        ensures holding { holding D.reads self.new ≡ holding D.reads self.old }
     {
         // No cycle marks, so that the pin takes no credit.
         let _credit = hand.credit();
@@ -33,6 +35,7 @@ impl<D: Disk> Channel<D> {
         ensures event { (part : List Record) → channel_step (place_with self.old part) (core_of D.reads self.old) hand.old (Event.Unpin id) ≡ Some (core_of D.reads self.new, hand.new) }
         ensures rest { self.new ≡ record self.old { rows = self.new.rows } }
         ensures turn { IsTurn (told_of D.tells D.reads D.faults self.old) (told_of D.tells D.reads D.faults self.new) }
+        ensures holding { holding D.reads self.new ≡ holding D.reads self.old }
     {
         let _credit = hand.credit();
         if self.index.row(id).is_some() {

@@ -14,5 +14,5 @@ mod typing;
 
 pub use channel::{Channel, NewChannel};
 pub use fault::ChannelFault;
-pub use laws::parts_keep_the_rule;
+pub use laws::{images_follow_what_is_held, parts_keep_the_rule};
 pub use phase::Stage;

@@ -5,6 +5,7 @@ ghost use Rattle.entity_form.specs.Spelling.{IsHeaderOf};
 ghost use Rattle.transactions_file.specs.Files.{is_live};
 ghost use Rattle.channel.specs.Core.{last_part, told_of};
 ghost use Rattle.channel.specs.Turns.{IsTurn};
+ghost use Rattle.channel.specs.Holding.{holding};
 ghost use Rattle.channel.specs.OnDisk.{Stands};
 ghost use Rattle.channel.specs.Rows.{opened_row};
 
@@ -28,7 +29,7 @@ fn opened_at(file: u64, at: u64, header: Header) -> Row
             pinned: false,
             marked: false,
             grey: false,
-            left: false,
+            swept_odd: false,
             next: 0,
         },
     }
@@ -60,6 +61,7 @@ impl<D: Disk> Channel<D> {
         ensures ok { OnOk result (self.new ≡ record self.old { rows = finite.insert self.old.rows id (opened_row file at header) }) }
         ensures err { OnErr result (self.new ≡ self.old) }
         ensures turn { IsTurn (told_of D.tells D.reads D.faults self.old) (told_of D.tells D.reads D.faults self.new) }
+        ensures holding { holding D.reads self.new ≡ holding D.reads self.old }
     {
         let due = ready(&self.prepared).checked_add(1).ok_or(NoMemory)?;
         if self.index.reserve(due).is_err() {

@@ -1,6 +1,6 @@
 //! Where a channel stands in the collection cycles.
 ghost use Rattle.std.specs.Prelude.{◌≡◌};
-ghost use Rattle.channel.specs.Stages.{bit_of};
+ghost use Rattle.channel.specs.Stages.{parity_at};
 
 /// A channel is done with a cycle, marks in it, or sweeps in it. Which ids it marked, which are grey and which a sweep has still to visit
 /// stands in their rows.
@@ -11,9 +11,10 @@ pub enum Stage {
     Sweeping { cycle: u64 },
 }
 
-/// What the bit `left` of a row is that the next sweep has not visited yet, or that this sweep need not visit any more.
-pub(crate) fn bit(stage: Stage) -> bool
-    ensures { result ≡ bit_of stage }
+/// The parity that a row keeps which is stored now, so that the first sweep to visit it is that of the next cycle, or that of this one
+/// where the channel marks.
+pub(crate) fn parity_at(stage: Stage) -> bool
+    ensures { result ≡ parity_at stage }
 {
     let cycle = match stage {
         Stage::Idle { cycle } | Stage::Sweeping { cycle } => cycle,

@@ -14,7 +14,7 @@ ghost use Rattle.core_hands.specs.OpenStores.{number_of, channels_of};
 ghost use Rattle.channel.specs.Given.{HasGiven};
 ghost use Rattle.channel.specs.Core.{core_of, last_part, log_next_id, place_with, told_of};
 ghost use Rattle.channel.specs.Turns.{IsTurn};
-ghost use Rattle.channel.specs.Left.{HoldsPartMore};
+ghost use Rattle.channel.specs.Holding.{HasGained, KeepsHolding, holding};
 ghost use Rattle.channel.specs.Faults.{IsFaultOrFull, UnlessFault, ending_after, failed_after};
 ghost use Rattle.channel.specs.Full.{part_full_at_first, part_full_behind};
 ghost use Rattle.channel.specs.OnDisk.{HoldsChannel, HoldsPart};
@@ -29,7 +29,7 @@ ghost use Rattle.channel.specs.Shown.{EndsAt, HasPart, disk_held};
 use crate::channel::{Attempt, Channel};
 use crate::fault::{ChannelFault, note};
 use crate::part::Part;
-use crate::phase::bit;
+use crate::phase::parity_at;
 use channel_files::FilesFault;
 use core_hands::Hand;
 use core_steps::Event;
@@ -46,9 +46,10 @@ impl<D: Disk> Channel<D> {
         // What a channel tried in vain is the part that was ready then.
         requires untried { self.old.tried ≡ None }
 
-        ensures ok { OnOk result (self.new ≡ record self.old { files = self.new.files; prepared = Some part.now }) }
-        ensures err { OnErr result (self.new ≡ record self.old { files = self.new.files }) }
+        ensures ok { OnOk result (self.new ≡ record self.old { files = self.new.files; prepared = Some part.now; cached = self.new.cached }) }
+        ensures err { OnErr result (self.new ≡ record self.old { files = self.new.files; cached = self.new.cached }) }
         ensures turn { IsTurn (told_of D.tells D.reads D.faults self.old) (told_of D.tells D.reads D.faults self.new) }
+        ensures holding { holding D.reads self.new ≡ holding D.reads self.old }
         // More files may be kept, and nothing else of the files changes.
         ensures files { self.new.files ≡ record self.old.files {
           transactions = record self.old.files.transactions {
@@ -70,6 +71,7 @@ impl<D: Disk> Channel<D> {
         requires untried { self.old.tried ≡ None }
         ensures given_up { self.new ≡ record self.old { prepared = None } }
         ensures turn { IsTurn (told_of D.tells D.reads D.faults self.old) (told_of D.tells D.reads D.faults self.new) }
+        ensures holding { holding D.reads self.new ≡ holding D.reads self.old }
     {
         self.prepared = None;
     }
@@ -110,6 +112,7 @@ impl<D: Disk> Channel<D> {
         ensures still_ready { OnErr result (self.new.prepared ≡ self.old.prepared) }
         ensures hand_stays { OnErr result (hand.new ≡ hand.old) }
         ensures rows_stay { OnErr result (self.new.rows ≡ self.old.rows) }
+        ensures holding_stays { IsTrue D.tells → OnErr result (KeepsHolding (holding D.reads self.old) (holding D.reads self.new)) }
 
         // Whatever was answered, each image has what the channel stood for, or this and the part.
         ensures stop { IsTrue D.tells → self.old.failed ≡ false
@@ -119,7 +122,8 @@ impl<D: Disk> Channel<D> {
             → EachImage (D.leaves self.new.files.disk) (λ image. EndsAt self.old.channels self.old.number (last_part self.old) (log_next_id self.old) (disk_held D.reads self.old) image
             ⊎ IfSome self.old.prepared (λ part. HasPart self.old.channels self.old.number (last_part self.old) (log_next_id self.old) part next_id (disk_held D.reads self.old) image)) }
         ensures content { IsTrue D.tells → OnOk result (IfSome self.old.prepared (λ part. (place : AnyPlace) × (content_of (D.reads self.new.files.disk) ≡ content_of (D.reads self.old.files.disk) ++ chunk_of number place (chunk_for part) ∷ []))) }
-        ensures held { IsTrue D.tells → OnOk result (IfSome self.old.prepared (HoldsPartMore D.reads self.old self.new)) }
+        // The disk gains the part over what it held.
+        ensures gained { IsTrue D.tells → OnOk result (IfSome self.old.prepared (λ part. HasGained part next_id (holding D.reads self.old).held (holding D.reads self.new))) }
         ensures header { self.new.files.transactions.log.header ≡ self.old.files.transactions.log.header }
 
         ensures tried { self.old.failed ≡ false → IsErrOf result ChannelFault.Fault → self.new.tried ≡ Some (TriedPart number next_id) }
@@ -129,6 +133,7 @@ impl<D: Disk> Channel<D> {
           rows = self.new.rows;
           prepared = self.new.prepared;
           replaced = self.new.replaced;
+          cached = self.new.cached;
           ending = ending_after result self.old.ending;
           failed = failed_after result self.old.failed;
           tried = self.new.tried;
@@ -141,6 +146,7 @@ impl<D: Disk> Channel<D> {
         ensures no_call { self.old.failed ≡ true → IsErrOf result ChannelFault.Fault × (self.new.files ≡ self.old.files) × (self.new.tried ≡ self.old.tried) }
         ensures faults { D.faults self.old.files.disk ≤ D.faults self.new.files.disk }
         ensures cause { self.old.failed ≡ false → IsErrOf result ChannelFault.Fault → Rose (D.faults self.old.files.disk) (D.faults self.new.files.disk) }
+        ensures calm { OnOk result (D.faults self.new.files.disk ≡ D.faults self.old.files.disk) }
     {
         if self.failed {
             return Err(note(&mut self.ending, &mut self.failed, ChannelFault::Fault));
@@ -155,7 +161,7 @@ impl<D: Disk> Channel<D> {
                 let Some(part) = self.prepared.take() else {
                     unreachable!()
                 };
-                let odd = bit(self.phase);
+                let odd = parity_at(self.phase);
                 self.replaced = part.put_rows(&mut self.index, place, odd);
                 hand.give_part(self.number);
                 Ok(())
@@ -180,6 +186,7 @@ impl<D: Disk> Channel<D> {
         ensures event { (part : List Record) → channel_step (place_with self.old part) (core_of D.reads self.old) hand.now Event.Confirm ≡ Some (core_of D.reads self.new, hand.now) }
         ensures rest { self.new ≡ record self.old { files = record self.old.files { confirmed = number } } }
         ensures turn { IsTurn (told_of D.tells D.reads D.faults self.old) (told_of D.tells D.reads D.faults self.new) }
+        ensures holding { holding D.reads self.new ≡ record (holding D.reads self.old) { before = None } }
     {
         let _ended = hand.ended_seen();
         self.files.confirm(number);

@@ -7,6 +7,7 @@ ghost use Rattle.channel_files.specs.Heads.{full_record};
 ghost use Rattle.channel_files.specs.Chunks.{content_of};
 ghost use Rattle.channel.specs.Core.{core_of, last_part, log_next_id, told_of, types_kept};
 ghost use Rattle.channel.specs.Turns.{IsTurn};
+ghost use Rattle.channel.specs.Holding.{holding};
 ghost use Rattle.channel.specs.Shown.{EndsAt, disk_held};
 ghost use Rattle.channel.specs.Faults.{UnlessFault, ending_after, failed_after};
 ghost use Rattle.channel.specs.OnDisk.{HoldsChannel, HoldsWith};
@@ -43,6 +44,7 @@ impl<D: Disk> Channel<D> {
         ensures ends { IsTrue D.tells → self.old.failed ≡ false
             → EachImage (D.leaves self.new.files.disk) (EndsAt self.old.channels self.old.number (last_part self.old) (log_next_id self.old) (disk_held D.reads self.old)) }
         ensures turn { IsTurn (told_of D.tells D.reads D.faults self.old) (told_of D.tells D.reads D.faults self.new) }
+        ensures holding { IsTrue D.tells → holding D.reads self.new ≡ holding D.reads self.old }
         ensures tried { self.old.failed ≡ false → IsErrOf result ChannelFault.Fault → self.new.tried ≡ Some (TriedType text.now) }
         ensures not_tried { UnlessFault result (self.new.tried ≡ self.old.tried) }
         ensures rest { self.new ≡ record self.old {
@@ -57,6 +59,7 @@ impl<D: Disk> Channel<D> {
         ensures no_call { self.old.failed ≡ true → IsErrOf result ChannelFault.Fault × (self.new.files ≡ self.old.files) × (self.new.tried ≡ self.old.tried) }
         ensures faults { D.faults self.old.files.disk ≤ D.faults self.new.files.disk }
         ensures cause { self.old.failed ≡ false → IsErrOf result ChannelFault.Fault → Rose (D.faults self.old.files.disk) (D.faults self.new.files.disk) }
+        ensures calm { OnOk result (D.faults self.new.files.disk ≡ D.faults self.old.files.disk) }
     {
         if self.failed {
             return Err(note(&mut self.ending, &mut self.failed, ChannelFault::Fault));

@@ -106,10 +106,10 @@ loop-slot-preserved c =
     let none : Slot = record { header = record { length = 0; type_id = 0; id = 0; count = 0 }; before = None } in
     let s : Slot = get_or l.slots l.slot-index none in
     let within : l.slot-index < length c.args.slots.now = omega arith in
-    let next : IsNext c.args.odd l.slots l.slot-index c.args.place.file l.at l.index.contents none s c.copied-slot.result c.stored_at.result c.put.new.self.contents =
+    let next : IsNext c.args.swept_odd l.slots l.slot-index c.args.place.file l.at l.index.contents none s c.copied-slot.result c.stored_at.result c.put.new.self.contents =
     record { item = refl; before_is = c.copied-slot.ensures ∙ c.row.ensures; row_is = c.stored_at.ensures; new_is = c.put.ensures.rows } in
     record {
-      put = put_by_calls c.args.odd c.args.slots.now c.args.index.now.contents c.args.place.file c.args.place.at l.slot-index l.slots l.index.contents l.at
+      put = put_by_calls c.args.swept_odd c.args.slots.now c.args.index.now.contents c.args.place.file c.args.place.at l.slot-index l.slots l.index.contents l.at
           none s c.copied-slot.result c.stored_at.result c.put.new.self.contents within l.invariant.put next;
       room = omega (arith, less_room c.put.new.self.spare l.index.spare _ c.put.ensures.spare, l.invariant.room);
     }

@@ -26,6 +26,6 @@ pub record ArePut (odd : Bool) (old : List Slot) (was : FinMap nat_cmp Row) (fil
 
 abbrev pub invariant-loop-slot : goal.invariant-loop-slot
 invariant-loop-slot l = record {
-  put : ArePut l.odd l.fn.slots l.fn.index.contents l.place.file l.place.at l.slot-index l.slots l.index.contents l.at;
+  put : ArePut l.swept_odd l.fn.slots l.fn.index.contents l.place.file l.place.at l.slot-index l.slots l.index.contents l.at;
   room : length l.fn.slots ≤ l.index.spare + l.slot-index;
 }

@@ -9,6 +9,7 @@ use Rattle.channel.proofs.Typed.{ends_typed, TypeCall, sound_typed, room_typed, 
 use Rattle.channel.proofs.Left.{left_refused}
 use Rattle.channel.proofs.LeftWrites.{ends_now, left_typed}
 use Rattle.transactions_file.specs.Transactions.{Transactions}
+use Rattle.channel.specs.Holding.{holding_in}
 use Rattle.channel.proofs.channel.Channel.keep_type.Goals as goal
 
 -- ---- the channel still holds what it held
@@ -16,9 +17,12 @@ use Rattle.channel.proofs.channel.Channel.keep_type.Goals as goal
 pub invariant_of-self : goal.invariant_of-self
 invariant_of-self g c =
     let new = c.note.new in
-    let still = λ (e : new.failed ≡ false). absurd (false≢true (sym e ∙ c.note.ensures.failed)) in
-    (sound_refused _ _ _ new.ending new.failed c.self.invariant.0 still, room_refused _ new.ending new.failed _ c.self.invariant.1 still, c.self.invariant.2,
-     left_refused _ _ _ _ new.ending new.failed c.self.invariant.0 c.self.invariant.3 still)
+    let still = λ (e : new.failed ≡ false). absurd (false≢true (sym e ∙ c.note.ensures.failed)) in (
+      sound_refused _ _ _ new.ending new.failed c.self.invariant.0 still,
+      room_refused _ new.ending new.failed _ c.self.invariant.1 still,
+      c.self.invariant.2,
+      left_refused _ _ _ _ new.ending new.failed c.self.invariant.0 c.self.invariant.3 still,
+    )
 
 pub invariant_of-self-in-Ok : goal.invariant_of-self-in-Ok
 invariant_of-self-in-Ok g c =
@@ -197,3 +201,20 @@ returns-in-Err-Fault-clause-ends g c =
 
 pub returns-in-Err-Fault-clause-content : goal.returns-in-Err-Fault-clause-content
 returns-in-Err-Fault-clause-content g c = rw (← c.self.view_is) c.keep_record.ensures.stays.content
+
+-- ---- what the disk holds
+
+pub returns-in-Ok-clause-holding : goal.returns-in-Ok-clause-holding
+returns-in-Ok-clause-holding g c =
+    let stays = c.keep_record.ensures.stays in
+    rw (← c.self.view_is) (λ told. λ i. holding_in (stays.transactions i).inventory.state (stays.confirmed i) (stays.content told i))
+
+pub returns-in-Err-Full-clause-holding : goal.returns-in-Err-Full-clause-holding
+returns-in-Err-Full-clause-holding g c =
+    let stays = c.keep_record.ensures.stays in
+    rw (← c.self.view_is) (λ told. λ i. holding_in (stays.transactions i).inventory.state (stays.confirmed i) (stays.content told i))
+
+pub returns-in-Err-Fault-clause-holding : goal.returns-in-Err-Fault-clause-holding
+returns-in-Err-Fault-clause-holding g c =
+    let stays = c.keep_record.ensures.stays in
+    rw (← c.self.view_is) (λ told. λ i. holding_in (stays.transactions i).inventory.state (stays.confirmed i) (stays.content told i))

@@ -4,27 +4,35 @@ use Rattle.std.proofs.lemmas.Bool.{false≢true}
 use Rattle.field_bytes.proofs.Laws.{IsBytes}
 use Rattle.channel.proofs.OnDisks.{row_within, row_header_there}
 use Rattle.channel.proofs.Sounds.{SameFiles, sound_read, room_called, sound_refused, room_refused}
-use Rattle.channel.proofs.Lookups.{lists_row, told_gone, told_other, ok_is_not, fault_is_not, changed_is_not, entity_read}
+use Rattle.channel.proofs.Lookups.{lists_row, told_gone, told_other, ok_is_not, fault_is_not, changed_is_not, entity_read, spelled_as_read}
 use Rattle.channel.proofs.Left.{left_read, left_refused}
 use Rattle.std.specs.Prelude.{is_some}
 use Rattle.entity_index.specs.declared.row.Row.{Row}
 use Rattle.channel.proofs.Turns.{silent, turn_gone}
+use Rattle.channel_files.specs.Chunks.{content_of}
+use Rattle.channel.specs.Holding.{holding_in}
 use Rattle.channel.proofs.channel.Channel.lookup.Goals as goal
 
 -- ---- the channel still holds what it held
 
 pub invariant_of-self : goal.invariant_of-self
 invariant_of-self g c =
-    let still = λ (e : c.note.new.failed ≡ false). sym c.note.ensures.failed ∙ e in
-    (sound_refused _ _ _ c.note.new.ending c.note.new.failed c.self.invariant.0 still, room_refused _ c.note.new.ending c.note.new.failed _ c.self.invariant.1 still, c.self.invariant.2,
-     left_refused _ _ _ _ c.note.new.ending c.note.new.failed c.self.invariant.0 c.self.invariant.3 still)
+    let still = λ (e : c.note.new.failed ≡ false). sym c.note.ensures.failed ∙ e in (
+      sound_refused _ _ _ c.note.new.ending c.note.new.failed c.self.invariant.0 still,
+      room_refused _ c.note.new.ending c.note.new.failed _ c.self.invariant.1 still,
+      c.self.invariant.2,
+      left_refused _ _ _ _ c.note.new.ending c.note.new.failed c.self.invariant.0 c.self.invariant.3 still,
+    )
 
 pub invariant_of-self-then-self : goal.invariant_of-self-then-self
 invariant_of-self-then-self g c =
     let new = c.note-then-self.new in
-    let still = λ (e : new.failed ≡ false). absurd (false≢true (sym e ∙ c.note-then-self.ensures.failed)) in
-    (sound_refused _ _ _ new.ending new.failed c.self.invariant.0 still, room_refused _ new.ending new.failed _ c.self.invariant.1 still, c.self.invariant.2,
-     left_refused _ _ _ _ new.ending new.failed c.self.invariant.0 c.self.invariant.3 still)
+    let still = λ (e : new.failed ≡ false). absurd (false≢true (sym e ∙ c.note-then-self.ensures.failed)) in (
+      sound_refused _ _ _ new.ending new.failed c.self.invariant.0 still,
+      room_refused _ new.ending new.failed _ c.self.invariant.1 still,
+      c.self.invariant.2,
+      left_refused _ _ _ _ new.ending new.failed c.self.invariant.0 c.self.invariant.3 still,
+    )
 
 pub invariant_of-self-in-Ok : goal.invariant_of-self-in-Ok
 invariant_of-self-in-Ok g c =
@@ -99,6 +107,14 @@ returns-in-Ok-clause-entity g c =
     let there = c.self.invariant.0.on_disk told c.if-self.false in
     entity_read reads c.self.inside.index.contents _ c.args.id row is there.whole (there.rows c.args.id row is) right.id_is right.header out fits (c.in-Ok.ensures.entity told))
 
+pub returns-in-Ok-clause-spelled : goal.returns-in-Ok-clause-spelled
+returns-in-Ok-clause-spelled g c =
+    let row = c.in-Some.field-0.now in
+    let right = c.self.invariant.0.rows c.args.id row (sym c.in-Some.ensures) in
+    let out = c.read_entity.new.out in
+    let fits : IsBytes out = λ i. omega (arith, c.type_inv.out i) in
+    spelled_as_read out row.header c.args.id fits (omega (arith, right.header.1, c.requires.room)) (omega (arith, right.header.4)) right.header right.id_is c.in-Ok.ensures.same
+
 pub returns-in-Ok-clause-within : goal.returns-in-Ok-clause-within
 returns-in-Ok-clause-within g c =
     let right = c.self.invariant.0.rows c.args.id c.in-Some.field-0.now (sym c.in-Some.ensures) in
@@ -143,3 +159,20 @@ returns-in_default-clause-turn g c =
     rw (← c.self.view_is) (λ listed.
     turn_gone g.D.Disk.tells g.D.Disk.reads g.D.Disk.faults _ c.note.new.ending c.note.new.failed c.args.id c.self.invariant.0 c.note.ensures.ending c.note.ensures.failed
     (silent g.D.Disk.tells (λ told. false≢true (sym none ∙ listed told))))
+
+-- ---- what the disk holds
+
+pub returns-in-Ok-clause-holding : goal.returns-in-Ok-clause-holding
+returns-in-Ok-clause-holding g c =
+    let e = c.read_entity.ensures in
+    rw (← c.self.view_is) (λ told. λ i. holding_in (e.transactions i).inventory.state (e.confirmed i) (content_of (e.reads told i)))
+
+pub returns-in-Err-Fault-clause-holding : goal.returns-in-Err-Fault-clause-holding
+returns-in-Err-Fault-clause-holding g c =
+    let e = c.read_entity.ensures in
+    rw (← c.self.view_is) (λ told. λ i. holding_in (e.transactions i).inventory.state (e.confirmed i) (content_of (e.reads told i)))
+
+pub returns-in-Err-Changed-clause-holding : goal.returns-in-Err-Changed-clause-holding
+returns-in-Err-Changed-clause-holding g c =
+    let e = c.read_entity.ensures in
+    rw (← c.self.view_is) (λ told. λ i. holding_in (e.transactions i).inventory.state (e.confirmed i) (content_of (e.reads told i)))

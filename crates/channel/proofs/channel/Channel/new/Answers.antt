@@ -1,5 +1,5 @@
 -- No id has a row, and the disk reads as the log that was opened.
-use Rattle.std.proofs.Common.{◌≡◌, ◌<◌, ◌≤◌, ◌↔◌, ℕ, Bool, false, List, Option, None, IsTrue, IsSome, IfSome, refl, sym, subst}
+use Rattle.std.proofs.Common.{◌≡◌, ◌<◌, ◌≤◌, ◌↔◌, ℕ, Bool, false, List, [], Option, None, IsTrue, IsSome, IfSome, refl, sym, subst}
 use Rattle.std.specs.Ordering.{nat_cmp}
 use Rattle.std.specs.FinMap.{FinMap, empty}
 use Rattle.gated_log.specs.State.{LogState}
@@ -15,7 +15,7 @@ use Rattle.channel.specs.declared.phase.Stage.TheVariants.{Idle}
 use Rattle.channel.specs.State.{ChannelState}
 use Rattle.channel.specs.Sound.{IsSound}
 use Rattle.channel.proofs.Prepared.{room_for_nothing}
-use Rattle.channel.proofs.Dropped.{no_row}
+use Rattle.channel.proofs.EmptyRows.{no_row}
 use Rattle.std.proofs.lemmas.Bool.{false≢true}
 use Rattle.gated_log.specs.Log.{Each, IsLogOf, payloads_of}
 use Rattle.channel_files.specs.Images.{EachAsRead}
@@ -35,6 +35,7 @@ made number count files types rows replaced = record {
   rows = rows;
   prepared = None;
   replaced = replaced;
+  cached = [];
   phase = Idle 0;
   ending = Sound;
   failed = false;

@@ -19,7 +19,9 @@ use Rattle.channel.proofs.Parted.{core_stored, place_low, room_full, sound_full,
 use Rattle.channel.proofs.PartImages.{agrees_with, core_refused, for_some, holds_either, holds_if}
 use Rattle.channel.proofs.ShownParts.{parts_held}
 use Rattle.channel.proofs.Left.{left_refused}
-use Rattle.channel.proofs.LeftWrites.{ends_parted, left_parted}
+use Rattle.channel.proofs.Held.{keeps_self, kept_confirmed}
+use Rattle.channel.proofs.LeftWrites.{ends_parted, left_parted, stands_parted}
+use Rattle.channel.specs.Shown.{disk_in}
 use Rattle.std.specs.List.{AllByRecursion}
 use Rattle.channel.specs.ChunkRule.{IsOwn}
 use Rattle.channel.proofs.Rest.{has_given}
@@ -34,9 +36,12 @@ use Rattle.channel.proofs.channel.Channel.store_part.Goals as goal
 
 pub invariant_of-self : goal.invariant_of-self
 invariant_of-self g c =
-    let still = λ (e : c.note.new.failed ≡ false). absurd (false≢true (sym e ∙ c.note.ensures.failed)) in
-    (sound_refused _ _ _ c.note.new.ending c.note.new.failed c.self.invariant.0 still, room_refused _ c.note.new.ending c.note.new.failed _ c.self.invariant.1 still, c.self.invariant.2,
-     left_refused _ _ _ _ c.note.new.ending c.note.new.failed c.self.invariant.0 c.self.invariant.3 still)
+    let still = λ (e : c.note.new.failed ≡ false). absurd (false≢true (sym e ∙ c.note.ensures.failed)) in (
+      sound_refused _ _ _ c.note.new.ending c.note.new.failed c.self.invariant.0 still,
+      room_refused _ c.note.new.ending c.note.new.failed _ c.self.invariant.1 still,
+      c.self.invariant.2,
+      left_refused _ _ _ _ c.note.new.ending c.note.new.failed c.self.invariant.0 c.self.invariant.3 still,
+    )
 
 pub invariant_of-self-in-Ok : goal.invariant_of-self-in-Ok
 invariant_of-self-in-Ok g c =
@@ -53,7 +58,7 @@ invariant_of-self-in-Ok g c =
     let owned = subst (λ (s : ChannelState g.row.D.Denot). IfSome s.prepared (AllByRecursion (IsOwn s.channels s.number c.args.next_id))) (sym c.self.view_is) c.requires.own in
     let own = subst (λ (o : Option (List Record)). IfSome o (AllByRecursion (IsOwn c.self.inside.count c.self.inside.number c.args.next_id))) is owned in
     let place_live = λ (some : 0 < length (chunk_for rs)). c.in-Ok.ensures.place_live (subst (λ (b : List ℕ). 0 < length b) (sym bytes) some) in (
-      rw (c.put_rows.ensures.rows, c.bit-odd.ensures, c.put_rows.ensures.slots, c.take.ensures.after)
+      rw (c.put_rows.ensures.rows, c.parity_at-odd.ensures, c.put_rows.ensures.slots, c.take.ensures.after)
           (sound_stored g.D.Disk.tells g.D.Disk.reads g.D.Disk.leaves _ files c.args.number c.args.next_id rs c.self.invariant.0 c.store_chunk.ensures.sizes
           c.store_chunk.ensures.unconfirmed c.store_chunk.ensures.live
           c.store_chunk.ensures.types c.in-Ok.place part stored c.in-Ok.ensures.whole_chunks place_live idle next le own),
@@ -178,7 +183,7 @@ returns-in-Some-take-clause-event g c =
     rw (← c.self.view_is) (λ told.
     for_some _ _ rs is
     (part_event _ _ c.args.hand.now c.args.number may _ _
-    (rw (c.put_rows.ensures.rows, c.bit-odd.ensures)
+    (rw (c.put_rows.ensures.rows, c.parity_at-odd.ensures)
     (core_stored g.D.Disk.tells g.D.Disk.reads g.D.Disk.leaves _ files c.args.number c.args.next_id rs c.self.invariant.0 c.store_chunk.ensures.sizes c.store_chunk.ensures.unconfirmed
     c.store_chunk.ensures.live
     c.store_chunk.ensures.types c.in-Ok.place part stored c.in-Ok.ensures.whole_chunks place_live idle next le own told c.if-self.false))
@@ -306,8 +311,8 @@ returns-in-Some-take-clause-given g c =
     let is : c.self.inside.prepared ≡ Some rs = search rules in
     rw (← c.self.view_is) (for_some _ _ rs is (has_given c.self.inside.number (length rs) c.args.hand.now c.give_part.new.self c.give_part.ensures))
 
-pub returns-in-Some-take-clause-held : goal.returns-in-Some-take-clause-held
-returns-in-Some-take-clause-held g c =
+pub returns-in-Some-take-clause-gained : goal.returns-in-Some-take-clause-gained
+returns-in-Some-take-clause-gained g c =
     let rs = c.in-Some-take.part in
     let files = c.store_chunk.new.self in
     let old_files = c.self.inside.files in
@@ -318,7 +323,49 @@ returns-in-Some-take-clause-held g c =
     let stored = subst (λ (b : List ℕ). IsStored g.D.Disk.tells g.D.Disk.reads g.D.Disk.leaves old_files files c.args.number b c.args.next_id
     (Ok c.in-Ok.place)) bytes c.in-Ok.ensures.stored in
     let s = old_files.transactions.inventory.state in
-    let next_is = ap (λ (s : State). s.next_id_before) stored.state ∙ head_next (length (chunk_for rs) == 0) (lacks_room s old_files.sizes.maximum) s in
+    let confirmed = subst (λ (s : ChannelState g.row.D.Denot). s.files.confirmed ≡ last_part s) (sym c.self.view_is) c.requires.confirmed in
+    let before_is = ap (λ (s : State). s.next_id_before) stored.state ∙ head_next (length (chunk_for rs) == 0) (lacks_room s old_files.sizes.maximum) s in
     let last_is = ap (λ (s : State). s.last) stored.state in
+    let next_is = ap (λ (s : State). s.next_id) stored.state in
     rw (← c.self.view_is) (λ told.
-    for_some _ _ rs is (more_files g.D.Disk.reads _ files c.args.number c.in-Ok.place rs (c.self.invariant.0.on_disk told c.if-self.false) part number_is last_is next_is (stored.content told)))
+    for_some _ _ rs is (more_files g.D.Disk.reads _ files c.args.number c.args.next_id c.in-Ok.place rs (c.self.invariant.0.on_disk told c.if-self.false) part number_is last_is next_is before_is (c.store_chunk.ensures.unconfirmed ∙ confirmed) (stored.content told)))
+
+-- ---- what the disk holds where the part is refused
+
+pub returns-then-self-clause-holding_stays : goal.returns-then-self-clause-holding_stays
+returns-then-self-clause-holding_stays g c = rw (← c.self.view_is) (λ told. keeps_self _)
+
+pub returns-in-Err-Full-clause-holding_stays : goal.returns-in-Err-Full-clause-holding_stays
+returns-in-Err-Full-clause-holding_stays g c =
+    let rs = c.in-Some.part in
+    let files = c.store_chunk.new.self in
+    let ensures = c.in-Err-Full.ensures in
+    let confirmed = subst (λ (s : ChannelState g.row.D.Denot). s.files.confirmed ≡ last_part s) (sym c.self.view_is) c.requires.confirmed in
+    let stored = subst (λ (b : List ℕ). IsStored g.D.Disk.tells g.D.Disk.reads g.D.Disk.leaves c.self.inside.files files c.args.number b c.args.next_id
+    (Err c.in-Err-Full.field-0)) c.chunk.ensures.bytes ensures.stored in
+    let full = subst (λ (f : FilesFault). IsStored g.D.Disk.tells g.D.Disk.reads g.D.Disk.leaves c.self.inside.files files c.args.number (chunk_for rs) c.args.next_id
+    (Err f)) c.in-Err-Full.field-0-is stored in
+    rw (← c.self.view_is) (λ told.
+    kept_confirmed g.D.Disk.reads c.self.inside.files files confirmed c.store_chunk.ensures.unconfirmed ensures.numbers.0 ensures.numbers.1
+    (λ x. λ i. (disk_in (ensures.numbers.0 i) (full.content_kept told i) 0).entities x))
+
+pub returns-in-Err-Fault-clause-holding_stays : goal.returns-in-Err-Fault-clause-holding_stays
+returns-in-Err-Fault-clause-holding_stays g c =
+    let rs = c.in-Some.part in
+    let files = c.store_chunk.new.self in
+    let fault = c.in-Err-Fault.field-0 in
+    let new = c.note-in-Err-Fault.new in
+    let ensures = c.in-Err-Fault.ensures in
+    let is : c.self.inside.prepared ≡ Some rs = search rules in
+    let next = subst (λ (s : ChannelState g.row.D.Denot). c.args.number ≡ last_part s + 1) (sym c.self.view_is) c.requires.number in
+    let le = subst (λ (s : ChannelState g.row.D.Denot). log_next_id s ≤ c.args.next_id) (sym c.self.view_is) c.requires.next_id in
+    let owned = subst (λ (s : ChannelState g.row.D.Denot). IfSome s.prepared (AllByRecursion (IsOwn s.channels s.number c.args.next_id))) (sym c.self.view_is) c.requires.own in
+    let own = subst (λ (o : Option (List Record)). IfSome o (AllByRecursion (IsOwn c.self.inside.count c.self.inside.number c.args.next_id))) is owned in
+    let confirmed = subst (λ (s : ChannelState g.row.D.Denot). s.files.confirmed ≡ last_part s) (sym c.self.view_is) c.requires.confirmed in
+    let stored = subst (λ (b : List ℕ). IsStored g.D.Disk.tells g.D.Disk.reads g.D.Disk.leaves c.self.inside.files files c.args.number b c.args.next_id
+    (Err fault)) c.chunk.ensures.bytes ensures.stored in
+    rw (← c.self.view_is) (λ told.
+    kept_confirmed g.D.Disk.reads c.self.inside.files files confirmed c.store_chunk.ensures.unconfirmed ensures.numbers.0 ensures.numbers.1
+    (stands_parted g.D.Disk.tells g.D.Disk.reads g.D.Disk.leaves _ files c.args.number c.args.next_id rs (Err fault) (c.self.invariant.0.on_disk told c.if-self.false) c.chunk.ensures.part stored told
+    (c.self.invariant.3.agrees told c.if-self.false) next confirmed (λ f. g.met.D.Disk.reads_left files.disk f told) ensures.numbers.0 ensures.numbers.1 c.store_chunk.ensures.unconfirmed
+    (c.store_chunk.ensures.types told) is c.self.invariant.3.header le own new.ending new.failed).entities)
