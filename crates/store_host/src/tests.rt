@@ -191,7 +191,7 @@ fn a_disk(rt: HostRuntime) -> Result<(), Fail> {
         disk.write(file, 4, b"six")?;
         disk.cut(file, 6)?;
     }
-    assert!(rt; open_files(rt)? <= before + 4);
+    assert!(rt; open_files(rt)? <= before.saturating_add(4));
     let mut buf = [0u8; 2];
     for file in 0..40u32 {
         disk.sync(file)?;
