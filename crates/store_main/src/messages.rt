@@ -2,7 +2,7 @@
 use crate::refused::tell_refused;
 use std::fmt::Display;
 use std::io::{Read, Write};
-use store_host::{FolderDisk, StdSink, StdSource};
+use store_host::{FolderDisk, StdSink, StdSource, StreamFailure};
 use store_run::{Cause, Status};
 
 /// Who speaks, and of which folder. A message that can't be written is lost.
@@ -44,18 +44,13 @@ impl<'a> Speaker<'a> {
         self.say(self.dir, &"the folder failed");
     }
 
-    fn read_failed<R: Read + Drop>(&self, source: &StdSource<'_, R>) {
-        match source.failure() {
-            Some(failure) => self.say("standard input", &failure),
-            None => self.say("standard input", &"it failed"),
-        }
-    }
-
-    fn write_failed<W: Write + Drop>(&self, sink: &StdSink<'_, W>) {
-        match sink.failure() {
-            Some(failure) => self.say("standard output", &failure),
-            None => self.say("standard output", &"it failed"),
-        }
+    /// Says that a standard stream failed.
+    fn stream_failed(&self, stream: &str, failure: Option<StreamFailure>) {
+        let Speaker { rt, program, dir } = *self;
+        let _ = match failure {
+            Some(failure) => eprintln!(rt; "{program}: {dir}: {stream} failed: {failure}"),
+            None => eprintln!(rt; "{program}: {dir}: {stream} failed"),
+        };
     }
 
     /// Says which lines were refused, and why the run ended where it did not end well.
@@ -71,8 +66,8 @@ impl<'a> Speaker<'a> {
             Status::Done | Status::Words => {}
             Status::Damaged { channel, cause } => self.damaged(channel, cause),
             Status::StorageFault => self.storage_failed(disks),
-            Status::ReadFault => self.read_failed(source),
-            Status::WriteFault => self.write_failed(sink),
+            Status::ReadFault => self.stream_failed("standard input", source.failure()),
+            Status::WriteFault => self.stream_failed("standard output", sink.failure()),
             Status::NoMemory => self.say(self.dir, &"there is not enough memory"),
             Status::InputTooLong => self.say(self.dir, &"the script has 268,435,456 bytes or more"),
             Status::Full => self.say(self.dir, &"a log in it is full"),
