@@ -7,10 +7,10 @@ mod logs;
 mod ranges;
 
 pub use chunks::{ChunkFault, take_in};
-pub use logs::{ChannelLog, ChannelLogFault, header_of, read_log};
-pub use ranges::{ChunkRange, Ranges};
 pub use laws::{
     disks_stand_for_cores, faults_hold_nothing, good_cores_are_stored, graphs_have_a_rooted_part,
     images_hold_one, searches_find_the_graph, storages_hold_their_graph, stored_graphs_start,
     walks_tell_right_chunks,
 };
+pub use logs::{ChannelLog, ChannelLogFault, header_of, read_log};
+pub use ranges::{ChunkRange, Ranges};

@@ -52,7 +52,7 @@ impl From<AllocError> for ChannelLogFault {
 impl From<LogFault> for ChannelLogFault {
     ghost use Rattle.std.specs.Prelude.{◌≡◌};
     ghost use Rattle.channel.specs.Images.{HasLog, IsLogFile, log_header, state_of};
-ghost use Rattle.recovery.specs.LogFaults.{channel_log_fault};
+    ghost use Rattle.recovery.specs.LogFaults.{channel_log_fault};
 
     ghost from_gives = { λ e f. f ≡ channel_log_fault e };
 

@@ -64,7 +64,10 @@ impl Ranges {
                 ..
             } => self.push(number, file, at, length),
             Entry::Transfer {
-                file, at, length, ..
+                file,
+                at,
+                length,
+                ..
             } => self.push(0, file, at, length),
             Entry::Truncation { .. } => {
                 self.take_back();
