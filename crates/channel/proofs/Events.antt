@@ -6,12 +6,11 @@ use Rattle.graph_model.specs.Ids.{has}
 use Rattle.graph_model.specs.Graph.{ids}
 use Rattle.core_steps.specs.declared.state.CoreChannel.{CoreChannel}
 use Rattle.core_steps.specs.declared.state.OpenStore.{OpenStore}
-use Rattle.core_steps.specs.declared.state.Phase.{Phase}
-use Rattle.core_steps.specs.declared.state.Phase.TheVariants.{Idle}
 use Rattle.core_steps.specs.declared.state.Place.{Place}
 use Rattle.core_steps.specs.declared.event.Event.TheVariants.{StorePart}
-use Rattle.core_steps.specs.Core.{Hand, written_of}
+use Rattle.core_steps.specs.Core.{Hand, is_idle, written_of}
 use Rattle.core_steps.specs.Rows.{channel_step, given, may_take, part_given, part_marked, part_taken, store_part}
+use Rattle.channel.proofs.Rest.{unmarked}
 use Rattle.core_hands.specs.OpenStores.{channels_of, number_of, with_part}
 
 is_given : {A : Type 0} (test : Bool) (x : A) → test ≡ true → given test x ≡ Some x
@@ -19,7 +18,7 @@ is_given test x e = rw e refl
 
 -- what the event asks of the channel and the hand
 pub record MayTake (p : Place) (core : CoreChannel) (hand : Hand) (number : ℕ) : Type 0 where
-  pub idle : core.phase ≡ Idle 0
+  pub idle : is_idle core.phase ≡ true
   pub number_is : number_of hand.opened ≡ Some number
   pub in_store : has p.number (channels_of hand.opened) ≡ true
   pub not_yet : has p.number (written_of hand.opened) ≡ false
@@ -40,7 +39,7 @@ module _ (p : Place) (core : CoreChannel) (hand : Hand) (number : ℕ) (may : Ma
       (and_from (nat_lt core.last_part o.number) _ older
       (and_from (nat_eq core.confirmed core.last_part) _ (eq-eqb core.confirmed core.last_part may.confirmed) (le-leb (length p.records) hand.credit may.credit))) in
       is_given (may_take p o core hand) (part_marked (ids p.records) core.phase (part_taken p o.number core, part_given p o hand)) is
-      ∙ ap (λ (phase : Phase). Some (part_marked (ids p.records) phase (part_taken p o.number core, part_given p o hand))) may.idle
+      ∙ ap (λ (r : CoreChannel × Hand). Some r) (unmarked (ids p.records) core.phase (part_taken p o.number core, part_given p o hand) may.idle)
       ∙ ap (λ (n : ℕ). Some (part_taken p n core, part_given p o hand)) same
 
   pub part_event : (core' : CoreChannel) (hand' : Hand) → core' ≡ part_taken p number core → hand' ≡ record hand { opened = with_part p.number hand.opened } → channel_step p core hand

@@ -38,6 +38,8 @@ module _ {D : Type 0} (c : ChannelState D) (id : ℕ) (row : Row) (rows : FinMap
       rows = with_row (Stands (reads c.files.disk) (last_part c)) c.rows id row (stands told) there.rows;
       before = λ unconfirmed. absurd (unconfirmed confirmed);
       types = there.types;
+      right = there.right;
+      waits = λ unconfirmed. absurd (unconfirmed confirmed);
     }
 
     sound_inserted : IsSound tells reads (gained (insert c.rows id row))
@@ -46,8 +48,8 @@ module _ {D : Type 0} (c : ChannelState D) (id : ℕ) (row : Row) (rows : FinMap
       channels = was.channels;
       sizes = was.sizes;
       rows = with_row (IsRightRow (gained (insert c.rows id row))) c.rows id row
-          (record { live = right.live; id_is = right.id_is; header = right.header })
-          (λ x r is. let each = was.rows x r is in record { live = each.live; id_is = each.id_is; header = each.header });
+          (record { live = right.live; id_is = right.id_is; header = right.header; fits = right.fits })
+          (λ x r is. let each = was.rows x r is in record { live = each.live; id_is = each.id_is; header = each.header; fits = each.fits });
       types = was.types;
       types_file = was.types_file;
       on_disk = λ told sound. on_disk_inserted told (was.on_disk told sound);

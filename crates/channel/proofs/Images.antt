@@ -79,8 +79,8 @@ module _ {D : Type 0} (reads : D → ℕ → List ℕ) (c : ChannelState D) (on 
   }
 
 -- the image shows the channel's last store, next id and chunks
-pub holds_shown : {D : Type 0} {header : List ℕ} {newest : ℕ} (reads : D → ℕ → List ℕ) (c : ChannelState D) (on : IsOnDisk reads c) (image : ℕ → List ℕ) (types : List (List ℕ))
-    → Shows header (last_part c) (log_next_id c) newest (content_of (reads c.files.disk)) image → IfSome c.types (λ log. IsLogOf log.header types (image 1)) → HoldsWith reads c types image
+pub holds_shown : {D : Type 0} {header : List ℕ} {newest before : ℕ} (reads : D → ℕ → List ℕ) (c : ChannelState D) (on : IsOnDisk reads c) (image : ℕ → List ℕ) (types : List (List ℕ))
+    → Shows header (last_part c) (log_next_id c) newest before (content_of (reads c.files.disk)) image → IfSome c.types (λ log. IsLogOf log.header types (image 1)) → HoldsWith reads c types image
 holds_shown reads c on image types shows there = holds reads c on image shows.content types shows.state shows.inventory shows.last_is shows.next_id_is there
 
 -- what is read has what the channel stands for

@@ -15,4 +15,15 @@ pub mod Parted
 pub mod PartImages
 pub mod Events
 pub mod Typed
-pub mod Dropped
+pub mod EmptyRows
+pub mod FromShows
+pub mod PartShows
+pub mod ShownParts
+pub mod Left
+pub mod LeftCalls
+pub mod LeftWrites
+pub mod Turns
+pub mod Rest
+pub mod Before
+pub mod Taken
+pub mod Held

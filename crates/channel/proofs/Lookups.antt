@@ -1,5 +1,5 @@
 -- An entity that is looked up in the table that rows give.
-use Rattle.std.proofs.Common.{◌≡◌, ◌≢◌, ◌↔◌, ℕ, true, false, inl, inr, List, length, take, Option, Some, None, is_some, option_map, Result, Ok, Err, refl, sym, ap, subst, ◌∙◌, arith}
+use Rattle.std.proofs.Common.{◌≡◌, ◌≢◌, ◌≤◌, ◌↔◌, ℕ, true, false, inl, inr, List, length, take, Option, Some, None, is_some, option_map, Result, Ok, Err, refl, sym, ap, subst, ◌∙◌, arith}
 use Rattle.std.specs.Prelude.{IsErrOf, IsSomeAnd}
 use Rattle.std.specs.Ordering.{nat_cmp}
 use Rattle.std.specs.FinMap.{FinMap, get}
@@ -11,13 +11,14 @@ use Rattle.graph_model.specs.declared.entity.Entity.{Entity}
 use Rattle.entity_form.specs.declared.places.Header.{Header}
 use Rattle.entity_form.specs.Spelling.{IsHeaderOf, entity_bytes}
 use Rattle.channel_files.specs.Whole.{HasWholeChunks, header_of}
+use Rattle.data_file.specs.Headers.{BeginsWith}
 use Rattle.entity_index.specs.declared.row.Row.{Row}
 use Rattle.channel.specs.declared.fault.ChannelFault.{ChannelFault}
 use Rattle.channel.specs.declared.fault.ChannelFault.TheVariants as fault
-use Rattle.channel.specs.Entities.{entity_in}
+use Rattle.channel.specs.Entities.{IsSpelling, entity_in}
 use Rattle.channel.specs.Core.{bytes_at, table_in}
 use Rattle.channel.specs.OnDisk.{Stands}
-use Rattle.channel.proofs.Spelled.{spells_itself}
+use Rattle.channel.proofs.Spelled.{header_in_front, spells_itself}
 use Rattle.channel.proofs.Tables.{entity_of_table, entity_under}
 use Rattle.channel.proofs.OnDisks.{row_length}
 
@@ -59,6 +60,19 @@ front_fits n bytes fits i = elim (cases_lt i n) [
   | inl lt ↦ rw (get_or-take n bytes i 0 lt) (fits i)
   | inr le ↦ rw (get_or_past (take n bytes) i 0 (omega (arith, length-take n bytes))) (omega arith)
 ]
+
+-- bytes of a header's length that begin with it are the spelling of an entity of its id, whatever stands behind it
+pub spelled_as_read : (out : List ℕ) (h : Header) (id : ℕ) → IsBytes out → h.length ≤ length out → 32 ≤ h.length → IsHeaderOf h h.length → h.id ≡ id → BeginsWith (take 32 out) h
+    → IsSpelling id (take h.length out)
+spelled_as_read out h id fits within long right id_is begins =
+    let bytes = take h.length out in
+    let long_is : length bytes ≡ h.length = omega (arith, length-take h.length out, within) in
+    let there : header_of bytes ≡ h = header_in_front out h.length h long within begins in
+    let right_there : IsHeaderOf (header_of bytes) (length bytes) = subst (λ (x : Header). IsHeaderOf x (length bytes)) (sym there) (subst (IsHeaderOf h) (sym long_is) right) in (
+      entity_in bytes,
+      spells_itself bytes (front_fits h.length out fits) (omega (arith, long_is, long)) right_there
+          ∙ ap (λ (x : ℕ). entity_bytes (x, entity_in bytes)) (ap (λ (x : Header). x.id) there ∙ id_is),
+    )
 
 module _ (reads : ℕ → List ℕ) (rows : FinMap nat_cmp Row) (number id : ℕ) (row : Row) (is : get rows id ≡ Some row) (whole : HasWholeChunks reads) (stands : Stands reads number id row)
     (id_is : row.header.id ≡ id) (header : IsHeaderOf row.header row.header.length) where

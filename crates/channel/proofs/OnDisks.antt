@@ -1,5 +1,5 @@
 -- Rows where the chunks of what is read stay, or become more.
-use Rattle.std.proofs.Common.{◌≡◌, ℕ, ◌+◌, ◌-◌, ◌≤◌, List, length, take, drop, Option, Some, None, IfSome, refl, ap, sym, subst, ◌∙◌, arith}
+use Rattle.std.proofs.Common.{◌≡◌, ◌≢◌, ℕ, ◌+◌, ◌-◌, ◌≤◌, List, length, take, drop, Option, Some, None, IfSome, refl, ap, sym, subst, ◌∙◌, arith}
 use Rattle.std.specs.Ordering.{nat_cmp}
 use Rattle.std.specs.FinMap.{FinMap, get}
 use Rattle.gated_log.specs.Of.{IsOf}
@@ -14,9 +14,13 @@ use Rattle.channel_files.proofs.WholeChunks.{whole_same}
 use Rattle.channel_files.proofs.FoundEntities.{IsThere, found_in_live, found_there, header_there, length_told}
 use Rattle.entity_index.specs.declared.row.Row.{Row}
 use Rattle.channel.specs.declared.part.Slot.{Slot}
+use Rattle.channel.specs.Stages.{ids_where, is_grey, is_marked, phase_in}
 use Rattle.channel.specs.State.{ChannelState}
-use Rattle.channel.specs.Core.{bytes_at, core_of, last_part, pins_in, table_in}
-use Rattle.channel.specs.OnDisk.{IsOnDisk, Stands, row_before}
+use Rattle.channel.specs.Core.{bytes_at, core_of, last_part, log_next_id, next_before, pins_in, table_in}
+use Rattle.transactions_file.specs.Inventory.{State}
+use Rattle.channel_files.specs.Shows.{newest_of}
+use Rattle.channel.specs.ChunkRule.{AreRightTo}
+use Rattle.channel.specs.OnDisk.{HasBefore, IsOnDisk, Stands, row_before}
 use Rattle.channel.proofs.Tables.{table_read_same}
 
 -- ---- one row
@@ -81,15 +85,19 @@ pub record KeepsRows {D : Type 0} (reads : D → ℕ → List ℕ) (old new : Ch
   pub confirmed : new.files.confirmed ≡ old.files.confirmed
   pub rows : new.rows ≡ old.rows
   pub replaced : new.replaced ≡ old.replaced
+  pub phase : new.phase ≡ old.phase
+  pub next : log_next_id new ≡ log_next_id old
+  pub number : new.number ≡ old.number
+  pub channels : new.channels ≡ old.channels
 
 module _ {D : Type 0} (reads : D → ℕ → List ℕ) (old new : ChannelState D) (keeps : KeepsRows reads old new) (was : IsOnDisk reads old) where
-  whole_still : HasWholeChunks (reads new.files.disk)
+  pub whole_still : HasWholeChunks (reads new.files.disk)
   whole_still = whole_same (content_of (reads old.files.disk)) (content_of (reads new.files.disk)) was.whole keeps.content
 
   had_row : (id : ℕ) (row : Row) → get new.rows id ≡ Some row → get old.rows id ≡ Some row
   had_row id row is = ap (λ (rows : FinMap nat_cmp Row). get rows id) (sym keeps.rows) ∙ is
 
-  same_table_at : (m n id : ℕ) → m ≡ n → table_of (reads new.files.disk) m id ≡ table_of (reads old.files.disk) n id
+  pub same_table_at : (m n id : ℕ) → m ≡ n → table_of (reads new.files.disk) m id ≡ table_of (reads old.files.disk) n id
   same_table_at m n id is = table_content_same (reads old.files.disk) (reads new.files.disk) m id keeps.content ∙ ap (λ (k : ℕ). table_of (reads old.files.disk) k id) is
 
   stand_still : (m n id : ℕ) (row : Row) → m ≡ n → Stands (reads old.files.disk) n id row → Stands (reads new.files.disk) m id row
@@ -105,7 +113,11 @@ module _ {D : Type 0} (reads : D → ℕ → List ℕ) (old new : ChannelState D
 
   -- so it stands for the same channel of the core
   pub core_still : core_of reads new ≡ core_of reads old
-  core_still = cc (table_still, keeps.last, keeps.confirmed, ap (λ (rows : FinMap nat_cmp Row). pins_in rows) keeps.rows)
+  core_still =
+      let marked : ids_where (is_marked new.phase) new.rows ≡ ids_where (is_marked old.phase) old.rows = λ i. ids_where (is_marked (keeps.phase i)) (keeps.rows i) in
+      let grey = ap (λ (rows : FinMap nat_cmp Row). ids_where is_grey rows) keeps.rows in
+      let phase : phase_in new.phase new.rows ≡ phase_in old.phase old.rows = λ i. phase_in (keeps.phase i) (keeps.rows i) in
+      cc (table_still, keeps.last, keeps.confirmed, ap (λ (rows : FinMap nat_cmp Row). pins_in rows) keeps.rows, marked, grey, phase)
 
   before_still : ((id : ℕ) (row : Row) → get old.rows id ≡ Some row → IfSome (row_before old.replaced id row) (Stands (reads old.files.disk) (last_part old - 1) id))
       → (id : ℕ) (row : Row) → get new.rows id ≡ Some row → IfSome (row_before new.replaced id row) (Stands (reads new.files.disk) (last_part new - 1) id)
@@ -114,12 +126,41 @@ module _ {D : Type 0} (reads : D → ℕ → List ℕ) (old new : ChannelState D
       (if_row (row_before old.replaced id row) (Stands (reads old.files.disk) (last_part old - 1) id) (Stands (reads new.files.disk) (last_part new - 1) id)
       (λ row. stand_still (last_part new - 1) (last_part old - 1) id row (ap (λ (k : ℕ). k - 1) keeps.last)) (before id row (had_row id row is)))
 
+  right_still : AreRightTo new.channels new.number (log_next_id new) (last_part new) (content_of (reads new.files.disk))
+  right_still =
+      let cs = content_of (reads old.files.disk) in
+      subst (λ (l : List Chunk). AreRightTo new.channels new.number (log_next_id new) (last_part new) l) (sym keeps.content)
+      (subst (λ (m : ℕ). AreRightTo new.channels new.number (log_next_id new) m cs) (sym keeps.last)
+      (subst (λ (x : ℕ). AreRightTo new.channels new.number x (last_part old) cs) (sym keeps.next)
+      (subst (λ (j : ℕ). AreRightTo new.channels j (log_next_id old) (last_part old) cs) (sym keeps.number)
+      (subst (λ (n : ℕ). AreRightTo n old.number (log_next_id old) (last_part old) cs) (sym keeps.channels) was.right))))
+
+  module _ (state : new.files.transactions.inventory.state ≡ old.files.transactions.inventory.state) where
+    waits_still : HasBefore reads old → HasBefore reads new
+    waits_still w =
+        let cs = content_of (reads old.files.disk) in
+        record {
+          some = subst (λ (m : ℕ). 1 ≤ m) (sym keeps.last) w.some;
+          newest = ap (λ (s : State). newest_of s.entry) state ∙ w.newest ∙ sym keeps.last;
+          right =
+              subst (λ (l : List Chunk). AreRightTo new.channels new.number (next_before new) (last_part new - 1) l) (sym keeps.content)
+              (subst (λ (m : ℕ). AreRightTo new.channels new.number (next_before new) (m - 1) cs) (sym keeps.last)
+              (subst (λ (s : State). AreRightTo new.channels new.number s.next_id_before (last_part old - 1) cs) (sym state)
+              (subst (λ (j : ℕ). AreRightTo new.channels j (next_before old) (last_part old - 1) cs) (sym keeps.number)
+              (subst (λ (n : ℕ). AreRightTo n old.number (next_before old) (last_part old - 1) cs) (sym keeps.channels) w.right))));
+        }
+
+    pub waits_same : new.files.confirmed ≢ last_part new → HasBefore reads new
+    waits_same unconfirmed = waits_still (was.waits (λ same. unconfirmed (keeps.confirmed ∙ same ∙ sym keeps.last)))
+
   -- and it is still what the disk reads, where its logs are
-  pub on_disk_still : IsOfDisk new.files.transactions (reads new.files.disk) → IfSome new.types (λ log. IsOf log (reads new.files.disk 1)) → IsOnDisk reads new
-  on_disk_still of_disk types = record {
+  pub on_disk_still : IsOfDisk new.files.transactions (reads new.files.disk) → IfSome new.types (λ log. IsOf log (reads new.files.disk 1)) → (new.files.confirmed ≢ last_part new → HasBefore reads new) → IsOnDisk reads new
+  on_disk_still of_disk types waits = record {
+    waits = waits;
     of_disk = of_disk;
     whole = whole_still;
     rows = λ id row is. stand_still (last_part new) (last_part old) id row keeps.last (was.rows id row (had_row id row is));
     before = λ unconfirmed. before_still (was.before (λ same. unconfirmed (keeps.confirmed ∙ same ∙ sym keeps.last)));
     types = types;
+    right = right_still;
   }

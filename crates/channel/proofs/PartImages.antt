@@ -48,10 +48,10 @@ module _ {D : Type 0} (tells : Bool) (reads : D → ℕ → List ℕ) (leaves : 
   place = next_place c.files (length (chunk_for rs))
 
   abbrev ShowsOld : Type 0
-  ShowsOld = Shows c.files.transactions.log.header (last_part c) (log_next_id c) 0 (content_of old) image
+  ShowsOld = Shows c.files.transactions.log.header (last_part c) (log_next_id c) 0 0 (content_of old) image
 
   abbrev ShowsNew : Type 0
-  ShowsNew = Shows c.files.transactions.log.header number next number (content_of old ++ chunk_of number place (chunk_for rs) ∷ []) image
+  ShowsNew = Shows c.files.transactions.log.header number next number (log_next_id c) (content_of old ++ chunk_of number place (chunk_for rs) ∷ []) image
 
   abbrev HasOld : Type 0
   HasOld = HasTables (last_part c) (table_of old) image

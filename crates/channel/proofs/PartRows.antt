@@ -1,5 +1,5 @@
 -- Where the records of a part stand, and the rows that they get.
-use Rattle.std.proofs.Common.{◌≡◌, ◌≤◌, ℕ, ◌+◌, true, false, cond, ◌||◌, List, [], ◌∷◌, map, Option, Some, None, option_map, ◌⊎◌, inl, inr, refl, sym, ap, ◌∙◌, arith}
+use Rattle.std.proofs.Common.{◌≡◌, ◌≤◌, ℕ, ◌+◌, Bool, true, false, cond, ◌||◌, List, [], ◌∷◌, map, Option, Some, None, option_map, ◌⊎◌, inl, inr, refl, sym, ap, ◌∙◌, arith}
 use Rattle.std.specs.Prelude.{nat_eq, nat_lt, is_some}
 use Rattle.std.specs.Option.{option_or, option_map_or}
 use Rattle.std.specs.Ordering.{nat_cmp}
@@ -30,8 +30,8 @@ abbrev pub spot_of : ℕ → List Record → ℕ → Option Spot
 spot_of at [] x = None
 spot_of at (r ∷ rs) x = cond (nat_eq x r.id) (Some (record { at = at; of = r })) (spot_of (at + entity_size r.entity) rs x)
 
-abbrev pub spot_row : ℕ → Spot → Row
-spot_row file s = row_at file s.at (header_for s.of)
+abbrev pub spot_row : Bool → ℕ → Spot → Row
+spot_row odd file s = row_at odd file s.at (header_for s.of)
 
 pub entity_of_spot : (at : ℕ) (rs : List Record) (x : ℕ) → entity_of rs x ≡ option_map (λ (s : Spot). s.of.entity) (spot_of at rs x)
 entity_of_spot at [] x = refl
@@ -61,26 +61,26 @@ no_spot b at (r ∷ rs) x at_most above =
     ∙ no_spot r.id (at + entity_size r.entity) rs x (omega arith) parts.1
 
 -- the row of a part's first record, which no later record of it replaces
-row_first : (file : ℕ) (first : Spot) (later : Option Spot) (rows : FinMap nat_cmp Row) (x : ℕ) → (x ≡ first.of.id → later ≡ None)
-    → option_or (option_map (spot_row file) later) (get (insert rows first.of.id (spot_row file first)) x)
-    ≡ option_or (option_map (spot_row file) (cond (nat_eq x first.of.id) (Some first) later)) (get rows x)
-row_first file first later rows x none = by (cases_eq x first.of.id)
+row_first : (odd : Bool) (file : ℕ) (first : Spot) (later : Option Spot) (rows : FinMap nat_cmp Row) (x : ℕ) → (x ≡ first.of.id → later ≡ None)
+    → option_or (option_map (spot_row odd file) later) (get (insert rows first.of.id (spot_row odd file first)) x)
+    ≡ option_or (option_map (spot_row odd file) (cond (nat_eq x first.of.id) (Some first) later)) (get rows x)
+row_first odd file first later rows x none = by (cases_eq x first.of.id)
   where
-    by : (x ≡ first.of.id) ⊎ (x ≡ first.of.id → ⊥) → option_or (option_map (spot_row file) later) (get (insert rows first.of.id (spot_row file first)) x)
-        ≡ option_or (option_map (spot_row file) (cond (nat_eq x first.of.id) (Some first) later)) (get rows x)
-    by (inl same) = ap (λ (o : Option Spot). option_or (option_map (spot_row file) o) (get (insert rows first.of.id (spot_row file first)) x)) (none same)
-        ∙ (ap (get (insert rows first.of.id (spot_row file first))) same ∙ (get-insert_same rows first.of.id (spot_row file first)
-        ∙ ap (λ t. option_or (option_map (spot_row file) (cond t (Some first) later)) (get rows x)) (sym (eq-eqb x first.of.id same))))
-    by (inr differs) = ap (option_or (option_map (spot_row file) later)) (get-insert_other rows first.of.id (spot_row file first) x differs)
-        ∙ ap (λ t. option_or (option_map (spot_row file) (cond t (Some first) later)) (get rows x)) (sym (ne_eqb x first.of.id differs))
+    by : (x ≡ first.of.id) ⊎ (x ≡ first.of.id → ⊥) → option_or (option_map (spot_row odd file) later) (get (insert rows first.of.id (spot_row odd file first)) x)
+        ≡ option_or (option_map (spot_row odd file) (cond (nat_eq x first.of.id) (Some first) later)) (get rows x)
+    by (inl same) = ap (λ (o : Option Spot). option_or (option_map (spot_row odd file) o) (get (insert rows first.of.id (spot_row odd file first)) x)) (none same)
+        ∙ (ap (get (insert rows first.of.id (spot_row odd file first))) same ∙ (get-insert_same rows first.of.id (spot_row odd file first)
+        ∙ ap (λ t. option_or (option_map (spot_row odd file) (cond t (Some first) later)) (get rows x)) (sym (eq-eqb x first.of.id same))))
+    by (inr differs) = ap (option_or (option_map (spot_row odd file) later)) (get-insert_other rows first.of.id (spot_row odd file first) x differs)
+        ∙ ap (λ t. option_or (option_map (spot_row odd file) (cond t (Some first) later)) (get rows x)) (sym (ne_eqb x first.of.id differs))
 
 -- each record has its row, and every other id the row that it had
-pub get_rows_behind : (file at : ℕ) (rs : List Record) (rows : FinMap nat_cmp Row) (x : ℕ) → rises (ids rs) ≡ true
-    → get (rows_behind file at (map header_for rs) rows) x ≡ option_or (option_map (spot_row file) (spot_of at rs x)) (get rows x)
-get_rows_behind file at [] rows x ordered = refl
-get_rows_behind file at (r ∷ rs) rows x ordered =
-    get_rows_behind file (at + entity_size r.entity) rs (insert rows r.id (row_at file at (header_for r))) x (rises_later r.id (ids rs) ordered)
-    ∙ row_first file (record { at = at; of = r }) (spot_of (at + entity_size r.entity) rs x) rows x
+pub get_rows_behind : (odd : Bool) (file at : ℕ) (rs : List Record) (rows : FinMap nat_cmp Row) (x : ℕ) → rises (ids rs) ≡ true
+    → get (rows_behind odd file at (map header_for rs) rows) x ≡ option_or (option_map (spot_row odd file) (spot_of at rs x)) (get rows x)
+get_rows_behind odd file at [] rows x ordered = refl
+get_rows_behind odd file at (r ∷ rs) rows x ordered =
+    get_rows_behind odd file (at + entity_size r.entity) rs (insert rows r.id (row_at odd file at (header_for r))) x (rises_later r.id (ids rs) ordered)
+    ∙ row_first odd file (record { at = at; of = r }) (spot_of (at + entity_size r.entity) rs x) rows x
     (λ same. no_spot r.id (at + entity_size r.entity) rs x (omega arith) ordered)
 
 -- the row that an id had before
@@ -97,23 +97,23 @@ before_of at (r ∷ rs) rows x row ordered = by (before_of at rs rows x row (ris
         ∙ (later ∙ ap (λ t. cond (t || has x (ids rs)) (get rows x) (Some row)) (sym (ne_eqb x r.id differs)))
 
 -- an id is pinned behind a part where it is one of the part's, or was
-pinned_behind : (file : ℕ) (spot : Option Spot) (before : Option Row)
-    → option_map_or is_pinned (option_or (option_map (spot_row file) spot) before) false ≡ (is_some (option_map (λ (s : Spot). s.of.entity) spot) || option_map_or is_pinned before false)
-pinned_behind file None before = refl
-pinned_behind file (Some s) before = refl
+pinned_behind : (odd : Bool) (file : ℕ) (spot : Option Spot) (before : Option Row)
+    → option_map_or is_pinned (option_or (option_map (spot_row odd file) spot) before) false ≡ (is_some (option_map (λ (s : Spot). s.of.entity) spot) || option_map_or is_pinned before false)
+pinned_behind odd file None before = refl
+pinned_behind odd file (Some s) before = refl
 
-has_behind : (file at : ℕ) (rs : List Record) (rows : FinMap nat_cmp Row) → rises (ids rs) ≡ true → (x : ℕ)
-    → has x (pins_in (rows_behind file at (map header_for rs) rows)) ≡ has x (add_all (ids rs) (pins_in rows))
-has_behind file at rs rows ordered x =
-    has_pins (rows_behind file at (map header_for rs) rows) x
-    ∙ (ap (λ (o : Option Row). option_map_or is_pinned o false) (get_rows_behind file at rs rows x ordered)
-    ∙ (pinned_behind file (spot_of at rs x) (get rows x)
+has_behind : (odd : Bool) (file at : ℕ) (rs : List Record) (rows : FinMap nat_cmp Row) → rises (ids rs) ≡ true → (x : ℕ)
+    → has x (pins_in (rows_behind odd file at (map header_for rs) rows)) ≡ has x (add_all (ids rs) (pins_in rows))
+has_behind odd file at rs rows ordered x =
+    has_pins (rows_behind odd file at (map header_for rs) rows) x
+    ∙ (ap (λ (o : Option Row). option_map_or is_pinned o false) (get_rows_behind odd file at rs rows x ordered)
+    ∙ (pinned_behind odd file (spot_of at rs x) (get rows x)
     ∙ (ap (λ (o : Option Entity). is_some o || option_map_or is_pinned (get rows x) false) (sym (entity_of_spot at rs x))
     ∙ (λ i. sym (has_ids rs x) i || sym (has_pins rows x) i)
     ∙ sym (has_add_all x (ids rs) (pins_in rows)))))
 
 -- the part's ids are pinned
-pub pins_behind : (file at : ℕ) (rs : List Record) (rows : FinMap nat_cmp Row) → rises (ids rs) ≡ true
-    → pins_in (rows_behind file at (map header_for rs) rows) ≡ add_all (ids rs) (pins_in rows)
-pins_behind file at rs rows ordered =
-    same_set _ _ (pins_rise (rows_behind file at (map header_for rs) rows)) (rises_add_all (ids rs) (pins_in rows) (pins_rise rows)) (has_behind file at rs rows ordered)
+pub pins_behind : (odd : Bool) (file at : ℕ) (rs : List Record) (rows : FinMap nat_cmp Row) → rises (ids rs) ≡ true
+    → pins_in (rows_behind odd file at (map header_for rs) rows) ≡ add_all (ids rs) (pins_in rows)
+pins_behind odd file at rs rows ordered =
+    same_set _ _ (pins_rise (rows_behind odd file at (map header_for rs) rows)) (rises_add_all (ids rs) (pins_in rows) (pins_rise rows)) (has_behind odd file at rs rows ordered)

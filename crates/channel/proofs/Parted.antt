@@ -25,11 +25,22 @@ use Rattle.channel_files.specs.Whole.{HasWholeChunks}
 use Rattle.entity_index.specs.declared.row.Row.{Row}
 use Rattle.channel.specs.Entities.{chunk_for, header_for}
 use Rattle.channel.specs.Parts.{IsPart, IsRightRecord}
+use Rattle.core_steps.specs.Core.{is_idle}
+use Rattle.channel.specs.Stages.{parity_at, ids_where, is_grey, is_marked, phase_in}
+use Rattle.std.specs.List.{AllByRecursion}
+use Rattle.channel_files.specs.Chunks.{Chunk}
+use Rattle.channel_files.specs.Heads.{chunk_of}
+use Rattle.std.proofs.Common.{◌++◌}
+use Rattle.channel.specs.ChunkRule.{AreRightTo, IsOwn, IsRightChunk}
+use Rattle.channel_files.specs.Shows.{newest_of}
+use Rattle.channel.proofs.PartShows.{right_with_part, up_to_before}
+use Rattle.channel.proofs.ShownParts.{all_read_to}
+use Rattle.channel.proofs.Rest.{fits_stored, none_grey, none_marked, same_phase}
 use Rattle.channel.specs.State.{ChannelState}
 use Rattle.core_steps.specs.declared.unit.Ending.{Ending}
 use Rattle.core_steps.specs.Told.{Tried}
 use Rattle.core_steps.specs.Rows.{part_taken}
-use Rattle.channel.specs.Core.{core_of, last_part, place_with}
+use Rattle.channel.specs.Core.{core_of, last_part, log_next_id, next_before, place_with}
 use Rattle.channel.specs.OnDisk.{IsOnDisk, Stands, row_before}
 use Rattle.channel.specs.Sound.{IsRightRow, IsSound}
 use Rattle.channel.specs.Taking.{rows_behind, slot_for}
@@ -85,6 +96,12 @@ some_bytes at (r ∷ rs) x s is = omega (arith, chunk_length (r ∷ rs))
 some_row : (a b : Row) → ◌≡◌ {A = Option Row} (Some a) (Some b) → a ≡ b
 some_row a b e = cc
 
+-- a new head leaves the next id
+pub head_next : (a b : Bool) (s : inventory.State) → (if a then s else (if b then with_new_head s else s)).next_id ≡ s.next_id
+head_next true b s = refl
+head_next false true s = refl
+head_next false false s = refl
+
 module _ {D : Type 0} (tells : Bool) (reads : D → ℕ → List ℕ) (leaves : D → ℕ → List ℕ → Bool) (c : ChannelState D) (files : Channel D) (number next : ℕ) (rs : List Record)
     (was : IsSound tells reads c) (sizes : files.sizes ≡ c.files.sizes) (confirmed_same : files.confirmed ≡ c.files.confirmed)
     (live : (file : ℕ) → is_live c.files.transactions.inventory.state.files file ≡ true → is_live files.transactions.inventory.state.files file ≡ true)
@@ -96,31 +113,36 @@ module _ {D : Type 0} (tells : Bool) (reads : D → ℕ → List ℕ) (leaves : 
 
   module _ (place : Place) (part : IsPart rs) (stored : IsStored tells reads leaves c.files files number (chunk_for rs) next (Ok place))
       (whole : IsTrue tells → HasWholeChunks (reads c.files.disk) → HasWholeChunks (reads files.disk))
-      (place_live : 0 < length (chunk_for rs) → is_live files.transactions.inventory.state.files place.file ≡ true) where
+      (place_live : 0 < length (chunk_for rs) → is_live files.transactions.inventory.state.files place.file ≡ true) (idle : is_idle (phase_in c.phase c.rows) ≡ true)
+      (number_is : number ≡ last_part c + 1) (le : log_next_id c ≤ next) (own : AllByRecursion (IsOwn c.channels c.number next) rs) where
+    abbrev odd : Bool
+    odd = parity_at c.phase
+
     -- the channel once the part is stored
     abbrev pub with_part_stored : ChannelState D
-    with_part_stored = record c { files = files; rows = rows_behind place.file place.at (map header_for rs) c.rows; prepared = None; replaced = map (slot_for c.rows) rs }
+    with_part_stored = record c { files = files; rows = rows_behind odd place.file place.at (map header_for rs) c.rows; prepared = None; replaced = map (slot_for c.rows) rs }
 
     pub last_stored : last_part with_part_stored ≡ number
     last_stored = ap (λ (s : inventory.State). s.last) stored.state
 
-    row_now : (id : ℕ) (o : Option Spot) → spot_of place.at rs id ≡ o → get with_part_stored.rows id ≡ option_or (option_map (spot_row place.file) o) (get c.rows id)
+    row_now : (id : ℕ) (o : Option Spot) → spot_of place.at rs id ≡ o → get with_part_stored.rows id ≡ option_or (option_map (spot_row odd place.file) o) (get c.rows id)
     row_now id o is =
-        get_rows_behind place.file place.at rs c.rows id part.ordered ∙ ap (λ (o : Option Spot). option_or (option_map (spot_row place.file) o) (get c.rows id)) is
+        get_rows_behind odd place.file place.at rs c.rows id part.ordered ∙ ap (λ (o : Option Spot). option_or (option_map (spot_row odd place.file) o) (get c.rows id)) is
 
-    right_spot : (id : ℕ) (s : Spot) → spot_of place.at rs id ≡ Some s → IsRightRow with_part_stored id (spot_row place.file s)
+    right_spot : (id : ℕ) (s : Spot) → spot_of place.at rs id ≡ Some s → IsRightRow with_part_stored id (spot_row odd place.file s)
     right_spot id s is = record {
       live = place_live (some_bytes place.at rs id s is);
       id_is = spot_id place.at rs id s is;
       header = right_header s.of (spot_right place.at rs id s part.entities is);
+      fits = fits_stored c.phase c.rows (spot_row odd place.file s) idle refl;
     }
 
     right_rows : (id : ℕ) (row : Row) → get with_part_stored.rows id ≡ Some row → IsRightRow with_part_stored id row
     right_rows id row is = (elim (spot_of place.at rs id) as (λ (o : Option Spot). spot_of place.at rs id ≡ o → IsRightRow with_part_stored id row) [
       | None ↦ λ none.
           let right = was.rows id row (sym (row_now id None none) ∙ is) in
-          record { live = live row.file right.live; id_is = right.id_is; header = right.header }
-      | Some s ↦ λ some. subst (IsRightRow with_part_stored id) (some_row (spot_row place.file s) row (sym (row_now id (Some s) some) ∙ is)) (right_spot id s some)
+          record { live = live row.file right.live; id_is = right.id_is; header = right.header; fits = right.fits }
+      | Some s ↦ λ some. subst (IsRightRow with_part_stored id) (some_row (spot_row odd place.file s) row (sym (row_now id (Some s) some) ∙ is)) (right_spot id s some)
     ]) refl
 
     stored_on_disk : IsTrue tells → c.failed ≡ false → IsOnDisk reads with_part_stored
@@ -132,11 +154,32 @@ module _ {D : Type 0} (tells : Bool) (reads : D → ℕ → List ℕ) (leaves : 
         record {
           of_disk = stored.of_disk told;
           whole = whole told on.whole;
-          rows = λ id row is. subst (λ (n : ℕ). Stands new n id row) (sym last_stored) (rows_stand old new (last_part c) number place rs part c.rows on.rows (whole told on.whole) table id row is);
+          rows = λ id row is. subst (λ (n : ℕ). Stands new n id row) (sym last_stored) (rows_stand odd old new (last_part c) number place rs part c.rows on.rows (whole told on.whole) table id row is);
           before = λ unconfirmed id row is.
               subst (λ (n : ℕ). IfSome (row_before (map (slot_for c.rows) rs) id row) (Stands new (n - 1) id)) (sym last_stored)
-              (before_stands old new (last_part c) number place rs part c.rows on.rows (whole told on.whole) table (stored.table_before told) id row is);
+              (before_stands odd old new (last_part c) number place rs part c.rows on.rows (whole told on.whole) table (stored.table_before told) id row is);
           types = types_still told on;
+          waits = λ unconfirmed. record {
+            some = omega (arith, last_stored, number_is);
+            newest = ap (λ (s : inventory.State). newest_of s.entry) stored.state ∙ sym last_stored;
+            right =
+                let more = content_of old ++ chunk_of number place (chunk_for rs) ∷ [] in
+                let m_is : last_part c ≡ last_part with_part_stored - 1 = omega (arith, last_stored, number_is) in
+                let s = c.files.transactions.inventory.state in
+                let next_is : log_next_id c ≡ next_before with_part_stored = sym (ap (λ (s : inventory.State). s.next_id_before) stored.state
+                ∙ head_next (length (chunk_for rs) == 0) (lacks_room s c.files.sizes.maximum) s) in
+                let same = up_to_before (last_part c) (content_of old) (chunk_of number place (chunk_for rs)) (omega (arith, number_is)) in
+                let there : AreRightTo c.channels c.number (log_next_id c) (last_part c) more = subst (AllByRecursion (λ (d : Chunk). IsRightChunk c.channels c.number (log_next_id c) d.bytes)) (sym same) on.right in
+                subst (λ (l : List Chunk). AreRightTo c.channels c.number (next_before with_part_stored) (last_part with_part_stored - 1) l) (sym (stored.content told))
+                (subst (λ (k : ℕ). AreRightTo c.channels c.number (next_before with_part_stored) k more) m_is
+                (subst (λ (x : ℕ). AreRightTo c.channels c.number x (last_part c) more) next_is there));
+          };
+          right =
+              subst (λ (l : List Chunk). AreRightTo c.channels c.number (log_next_id with_part_stored) (last_part with_part_stored) l) (sym (stored.content told))
+              (subst (λ (k : ℕ). AreRightTo c.channels c.number (log_next_id with_part_stored) k (content_of old ++ chunk_of number place (chunk_for rs) ∷ [])) (sym last_stored)
+              (subst (λ (x : ℕ). AreRightTo c.channels c.number x number (content_of old ++ chunk_of number place (chunk_for rs) ∷ [])) (sym (ap (λ (s : inventory.State). s.next_id) stored.state))
+              (subst (λ (k : ℕ). AreRightTo c.channels c.number next k (content_of old ++ chunk_of k place (chunk_for rs) ∷ [])) (sym number_is)
+              (right_with_part c.channels c.number (last_part c) (log_next_id c) next (content_of old) place rs part own (all_read_to reads c on) on.right le))));
         }
 
     pub sound_stored : IsSound tells reads with_part_stored
@@ -154,15 +197,22 @@ module _ {D : Type 0} (tells : Bool) (reads : D → ℕ → List ℕ) (leaves : 
     pub core_stored : IsTrue tells → c.failed ≡ false → core_of reads with_part_stored ≡ part_taken (place_with c rs) number (core_of reads c)
     core_stored told sound =
         let on = was.on_disk told sound in
-        let table = table_stored (reads c.files.disk) (reads files.disk) (last_part c) number place rs part c.rows on.rows (whole told on.whole) (stored.table told) in
-        let pins = pins_behind place.file place.at rs c.rows part.ordered in
-        cc (table, pins, last_stored, confirmed_same)
+        let table = table_stored odd (reads c.files.disk) (reads files.disk) (last_part c) number place rs part c.rows on.rows (whole told on.whole) (stored.table told) in
+        let pins = pins_behind odd place.file place.at rs c.rows part.ordered in
+        let fit = λ (id : ℕ) (row : Row) (is : get c.rows id ≡ Some row). (was.rows id row is).fits in
+        let fit_now = λ (id : ℕ) (row : Row) (is : get with_part_stored.rows id ≡ Some row). (right_rows id row is).fits in
+        let marked : ids_where (is_marked c.phase) with_part_stored.rows ≡ ids_where (is_marked c.phase) c.rows =
+        none_marked c.phase c.rows with_part_stored.rows idle fit_now ∙ sym (none_marked c.phase c.rows c.rows idle fit) in
+        let grey : ids_where is_grey with_part_stored.rows ≡ ids_where is_grey c.rows = none_grey c.phase c.rows with_part_stored.rows idle fit_now ∙ sym (none_grey c.phase c.rows c.rows idle fit) in
+        let phase = same_phase c.phase c.rows with_part_stored.rows idle in
+        cc (table, pins, last_stored, confirmed_same, marked, grey, phase)
 
   -- THE PART IS REFUSED
 
   module _ (fault : FilesFault) (stored : IsStored tells reads leaves c.files files number (chunk_for rs) next (Err fault)) (ending : Ending) (failed : Bool) (tried : Option Tried)
       (whole : IsTrue tells → HasWholeChunks (reads c.files.disk) → UnlessFault {A = Place} (Err fault) (HasWholeChunks (reads files.disk)))
-      (last_same : files.transactions.inventory.state.last ≡ c.files.transactions.inventory.state.last) where
+      (last_same : files.transactions.inventory.state.last ≡ c.files.transactions.inventory.state.last)
+      (next_same : files.transactions.inventory.state.next_id ≡ c.files.transactions.inventory.state.next_id) (confirmed_is : c.files.confirmed ≡ last_part c) where
     -- the channel once the part is refused
     abbrev pub with_part_refused : ChannelState D
     with_part_refused = record c { files = files; ending = ending; failed = failed; tried = tried }
@@ -172,15 +222,15 @@ module _ {D : Type 0} (tells : Bool) (reads : D → ℕ → List ℕ) (leaves : 
         let on = was.on_disk told sound in
         let content = subst (λ (f : FilesFault). IsFaultOrFull (λ n. content_of (reads files.disk) ≡ content_of (reads c.files.disk)) f) full (stored.content_kept told) in
         let of_disk = subst (λ (f : FilesFault). UnlessFault {A = Place} (Err f) (IsOfDisk files.transactions (reads files.disk))) full (stored.of_disk told) in
-        let keeps : KeepsRows reads c with_part_refused = record { content = content; last = last_same; confirmed = confirmed_same; rows = refl; replaced = refl } in
-        on_disk_still reads c with_part_refused keeps on of_disk (types_still told on)
+        let keeps : KeepsRows reads c with_part_refused = record { content = content; last = last_same; confirmed = confirmed_same; rows = refl; replaced = refl; phase = refl; next = next_same; number = refl; channels = refl } in
+        on_disk_still reads c with_part_refused keeps on of_disk (types_still told on) (λ unconfirmed. absurd (unconfirmed (confirmed_same ∙ confirmed_is ∙ sym last_same)))
 
     pub sound_refused_part : (IsTrue tells → failed ≡ false → IsOnDisk reads with_part_refused) → IsSound tells reads with_part_refused
     sound_refused_part on_disk = record {
       number = was.number;
       channels = was.channels;
       sizes = subst IsInRange (sym sizes) was.sizes;
-      rows = λ id row is. let right = was.rows id row is in record { live = live row.file right.live; id_is = right.id_is; header = right.header };
+      rows = λ id row is. let right = was.rows id row is in record { live = live row.file right.live; id_is = right.id_is; header = right.header; fits = right.fits };
       types = was.types;
       types_file = was.types_file;
       on_disk = on_disk;

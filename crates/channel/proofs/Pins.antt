@@ -17,21 +17,13 @@ use Rattle.oid_table.specs.MapLaws.{get-insert_same, get-insert_other}
 use Rattle.entity_index.specs.declared.row.Row.{Row}
 use Rattle.entity_index.specs.Rows.{pinned, unpinned}
 use Rattle.channel.specs.Core.{pins_in}
+use Rattle.channel.specs.Stages.{ids_where}
 use Rattle.channel.proofs.Tables.{T_left, T_right, first_below, key_test, less_test, others_sorted, same_table}
 
 abbrev pub is_pinned : Row → Bool
 is_pinned row = row.state.pinned
 
 -- THE IDS
-
-abbrev pinned_of : List (ℕ × Row) → List (ℕ × Row)
-pinned_of es = filter (λ (e : ℕ × Row). e.1.state.pinned) es
-
-abbrev keys_of : List (ℕ × Row) → List ℕ
-keys_of es = map (λ (e : ℕ × Row). e.0) es
-
-abbrev pins_of : List (ℕ × Row) → List ℕ
-pins_of es = keys_of (pinned_of es)
 
 -- an id that is not above a bound has no row above it
 find_low : (b x : ℕ) (es : List (ℕ × Row)) → x ≤ b → T (below_all nat_cmp b es) → find nat_cmp x es ≡ None
@@ -40,56 +32,73 @@ find_low b x (e ∷ es) at_most below =
     let less = ltb-true b e.0 (less_test b e.0 (T_left _ _ below)) in
     ap (λ t. cond t (Some e.1) (find nat_cmp x es)) (key_test x e.0 ∙ ne_eqb x e.0 (λ same. omega arith)) ∙ find_low b x es at_most (T_right _ _ below)
 
--- the first row decides of its id, and of no other
-has_first : (e : ℕ × Row) (es : List (ℕ × Row)) (x : ℕ) → nat_eq x e.0 ≡ true → has x (pins_of es) ≡ false → has x (pins_of (e ∷ es)) ≡ is_pinned e.1
-has_first e es x is none = elim (e.1.state.pinned) as (λ t. has x (keys_of (cond t (e ∷ pinned_of es) (pinned_of es))) ≡ t) [
-  | true ↦ or_left _ _ is
-  | false ↦ none
-]
+-- the ids whose rows meet a test
+module _ (test : Row → Bool) where
+  abbrev pinned_of : List (ℕ × Row) → List (ℕ × Row)
+  pinned_of es = filter (λ (e : ℕ × Row). test e.1) es
 
-has_later : (e : ℕ × Row) (es : List (ℕ × Row)) (x : ℕ) → nat_eq x e.0 ≡ false → has x (pins_of (e ∷ es)) ≡ has x (pins_of es)
-has_later e es x is = elim (e.1.state.pinned) as (λ t. has x (keys_of (cond t (e ∷ pinned_of es) (pinned_of es))) ≡ has x (pins_of es)) [
-  | true ↦ ap (λ t. t || has x (pins_of es)) is
-  | false ↦ refl
-]
+  abbrev keys_of : List (ℕ × Row) → List ℕ
+  keys_of es = map (λ (e : ℕ × Row). e.0) es
 
-has_pins_of : (es : List (ℕ × Row)) (x : ℕ) → T (is_sorted nat_cmp es) → has x (pins_of es) ≡ option_map_or is_pinned (find nat_cmp x es) false
-has_pins_of [] x sorted = refl
-has_pins_of (e ∷ es) x sorted =
-    let later = has_pins_of es x (others_sorted e es sorted) in
-    (elim (nat_eq x e.0) as (λ t. nat_eq x e.0 ≡ t → has x (pins_of (e ∷ es)) ≡ option_map_or is_pinned (cond t (Some e.1) (find nat_cmp x es)) false) [
-      | true ↦ λ is.
-          let same = eqb-true x e.0 is in
-          let absent : find nat_cmp x es ≡ None = find_low e.0 x es (omega arith) (first_below e es sorted) in
-          has_first e es x is (later ∙ ap (λ (o : Option Row). option_map_or is_pinned o false) absent)
-      | false ↦ λ is. has_later e es x is ∙ later
-    ]) refl ∙ ap (λ t. option_map_or is_pinned (cond t (Some e.1) (find nat_cmp x es)) false) (sym (key_test x e.0))
+  abbrev pins_of : List (ℕ × Row) → List ℕ
+  pins_of es = keys_of (pinned_of es)
+
+  -- the first row decides of its id, and of no other
+  has_first : (e : ℕ × Row) (es : List (ℕ × Row)) (x : ℕ) → nat_eq x e.0 ≡ true → has x (pins_of es) ≡ false → has x (pins_of (e ∷ es)) ≡ test e.1
+  has_first e es x is none = elim (test e.1) as (λ t. has x (keys_of (cond t (e ∷ pinned_of es) (pinned_of es))) ≡ t) [
+    | true ↦ or_left _ _ is
+    | false ↦ none
+  ]
+
+  has_later : (e : ℕ × Row) (es : List (ℕ × Row)) (x : ℕ) → nat_eq x e.0 ≡ false → has x (pins_of (e ∷ es)) ≡ has x (pins_of es)
+  has_later e es x is = elim (test e.1) as (λ t. has x (keys_of (cond t (e ∷ pinned_of es) (pinned_of es))) ≡ has x (pins_of es)) [
+    | true ↦ ap (λ t. t || has x (pins_of es)) is
+    | false ↦ refl
+  ]
+
+  has_pins_of : (es : List (ℕ × Row)) (x : ℕ) → T (is_sorted nat_cmp es) → has x (pins_of es) ≡ option_map_or test (find nat_cmp x es) false
+  has_pins_of [] x sorted = refl
+  has_pins_of (e ∷ es) x sorted =
+      let later = has_pins_of es x (others_sorted e es sorted) in
+      (elim (nat_eq x e.0) as (λ t. nat_eq x e.0 ≡ t → has x (pins_of (e ∷ es)) ≡ option_map_or test (cond t (Some e.1) (find nat_cmp x es)) false) [
+        | true ↦ λ is.
+            let same = eqb-true x e.0 is in
+            let absent : find nat_cmp x es ≡ None = find_low e.0 x es (omega arith) (first_below e es sorted) in
+            has_first e es x is (later ∙ ap (λ (o : Option Row). option_map_or test o false) absent)
+        | false ↦ λ is. has_later e es x is ∙ later
+      ]) refl ∙ ap (λ t. option_map_or test (cond t (Some e.1) (find nat_cmp x es)) false) (sym (key_test x e.0))
+
+  pub has_where : (rows : FinMap nat_cmp Row) (x : ℕ) → has x (ids_where test rows) ≡ option_map_or test (get rows x) false
+  has_where rows x = has_pins_of (entries rows) x (entries_sorted rows) ∙ ap (λ (o : Option Row). option_map_or test o false) (sym (get-entries rows x))
+
+  pins_above : (b : ℕ) (es : List (ℕ × Row)) → T (below_all nat_cmp b es) → T (is_sorted nat_cmp es) → rises_from b (pins_of es) ≡ true
+  pins_above b [] below sorted = refl
+  pins_above b (e ∷ es) below sorted =
+      let later = pins_above e.0 es (first_below e es sorted) (others_sorted e es sorted) in
+      let skipped = pins_above b es (T_right _ _ below) (others_sorted e es sorted) in
+      elim (test e.1) as (λ t. rises_from b (keys_of (cond t (e ∷ pinned_of es) (pinned_of es))) ≡ true) [
+        | true ↦ and_from _ _ (less_test b e.0 (T_left _ _ below)) later
+        | false ↦ skipped
+      ]
+
+  pins_of_rise : (es : List (ℕ × Row)) → T (is_sorted nat_cmp es) → rises (pins_of es) ≡ true
+  pins_of_rise [] sorted = refl
+  pins_of_rise (e ∷ es) sorted =
+      let later = pins_above e.0 es (first_below e es sorted) (others_sorted e es sorted) in
+      let skipped = pins_of_rise es (others_sorted e es sorted) in
+      elim (test e.1) as (λ t. rises (keys_of (cond t (e ∷ pinned_of es) (pinned_of es))) ≡ true) [
+        | true ↦ later
+        | false ↦ skipped
+      ]
+
+  pub where_rises : (rows : FinMap nat_cmp Row) → rises (ids_where test rows) ≡ true
+  where_rises rows = pins_of_rise (entries rows) (entries_sorted rows)
 
 pub has_pins : (rows : FinMap nat_cmp Row) (x : ℕ) → has x (pins_in rows) ≡ option_map_or is_pinned (get rows x) false
-has_pins rows x = has_pins_of (entries rows) x (entries_sorted rows) ∙ ap (λ (o : Option Row). option_map_or is_pinned o false) (sym (get-entries rows x))
-
-pins_above : (b : ℕ) (es : List (ℕ × Row)) → T (below_all nat_cmp b es) → T (is_sorted nat_cmp es) → rises_from b (pins_of es) ≡ true
-pins_above b [] below sorted = refl
-pins_above b (e ∷ es) below sorted =
-    let later = pins_above e.0 es (first_below e es sorted) (others_sorted e es sorted) in
-    let skipped = pins_above b es (T_right _ _ below) (others_sorted e es sorted) in
-    elim (e.1.state.pinned) as (λ t. rises_from b (keys_of (cond t (e ∷ pinned_of es) (pinned_of es))) ≡ true) [
-      | true ↦ and_from _ _ (less_test b e.0 (T_left _ _ below)) later
-      | false ↦ skipped
-    ]
-
-pins_of_rise : (es : List (ℕ × Row)) → T (is_sorted nat_cmp es) → rises (pins_of es) ≡ true
-pins_of_rise [] sorted = refl
-pins_of_rise (e ∷ es) sorted =
-    let later = pins_above e.0 es (first_below e es sorted) (others_sorted e es sorted) in
-    let skipped = pins_of_rise es (others_sorted e es sorted) in
-    elim (e.1.state.pinned) as (λ t. rises (keys_of (cond t (e ∷ pinned_of es) (pinned_of es))) ≡ true) [
-      | true ↦ later
-      | false ↦ skipped
-    ]
+has_pins rows x = has_where is_pinned rows x
 
 pub pins_rise : (rows : FinMap nat_cmp Row) → rises (pins_in rows) ≡ true
-pins_rise rows = pins_of_rise (entries rows) (entries_sorted rows)
+pins_rise rows = where_rises is_pinned rows
 
 -- SETS
 

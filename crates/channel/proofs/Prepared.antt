@@ -17,7 +17,7 @@ use Rattle.channel.specs.State.{ChannelState}
 use Rattle.channel.specs.Core.{last_part}
 use Rattle.channel.specs.OnDisk.{AgreesWithImages, IsOnDisk}
 use Rattle.channel.specs.Sound.{HasRoom, IsSound}
-use Rattle.channel.proofs.OnDisks.{KeepsRows, on_disk_still}
+use Rattle.channel.proofs.OnDisks.{KeepsRows, on_disk_still, waits_same}
 
 -- the log and the inventory are the same, and there may be room for more files
 pub record SameLog (old new : Transactions) : Type 0 where
@@ -63,6 +63,10 @@ module _ {D : Type 0} (tells : Bool) (reads : D → ℕ → List ℕ) (c : Chann
     confirmed = same.confirmed;
     rows = refl;
     replaced = refl;
+    phase = refl;
+    next = ap (λ (s : State). s.next_id) same.state;
+    number = refl;
+    channels = refl;
   }
 
   prepared_on_disk : IsOnDisk reads c → IsOnDisk reads with_prepared
@@ -70,6 +74,7 @@ module _ {D : Type 0} (tells : Bool) (reads : D → ℕ → List ℕ) (c : Chann
       on_disk_still reads c with_prepared keeps_rows on
       (subst (λ (d : D). IsOfDisk files.transactions (reads d)) (sym same.disk) (of_disk_still c.files.transactions files.transactions (reads c.files.disk) same_log on.of_disk))
       (subst (λ (d : D). IfSome c.types (λ log. IsOf log (reads d 1))) (sym same.disk) on.types)
+      (waits_same reads c with_prepared keeps_rows on same.state)
 
   pub sound_prepared : IsSound tells reads c → IsSound tells reads with_prepared
   sound_prepared was = record {
@@ -78,7 +83,7 @@ module _ {D : Type 0} (tells : Bool) (reads : D → ℕ → List ℕ) (c : Chann
     sizes = subst IsInRange (sym same.sizes) was.sizes;
     rows = λ id row is.
         let right = was.rows id row is in
-        record { live = ap (λ (s : State). is_live s.files row.file) same.state ∙ right.live; id_is = right.id_is; header = right.header };
+        record { live = ap (λ (s : State). is_live s.files row.file) same.state ∙ right.live; id_is = right.id_is; header = right.header; fits = right.fits };
     types = was.types;
     types_file = was.types_file;
     on_disk = λ told sound. prepared_on_disk (was.on_disk told sound);
@@ -112,7 +117,7 @@ module _ {D : Type 0} (tells : Bool) (reads : D → ℕ → List ℕ) (c : Chann
     number = was.number;
     channels = was.channels;
     sizes = was.sizes;
-    rows = λ id row is. let right = was.rows id row is in record { live = right.live; id_is = right.id_is; header = right.header };
+    rows = λ id row is. let right = was.rows id row is in record { live = right.live; id_is = right.id_is; header = right.header; fits = right.fits };
     types = was.types;
     types_file = was.types_file;
     on_disk = λ told sound. let on = was.on_disk told sound in record {
@@ -121,6 +126,8 @@ module _ {D : Type 0} (tells : Bool) (reads : D → ℕ → List ℕ) (c : Chann
       rows = on.rows;
       before = λ unconfirmed. absurd (unconfirmed number_is);
       types = on.types;
+      right = on.right;
+      waits = λ unconfirmed. absurd (unconfirmed number_is);
     };
   }
 

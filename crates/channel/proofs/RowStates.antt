@@ -1,5 +1,5 @@
 -- A channel one of whose rows gets another state: it stays sound, and its table stays.
-use Rattle.std.proofs.Common.{◌≡◌, ◌≤◌, ℕ, ◌-◌, Bool, true, false, ◌==◌, if◌then◌else◌, IsSome, IfSome, List, [], ◌∷◌, Option, Some, None, option_map, inl, inr, refl, sym, ap, subst, ◌∙◌}
+use Rattle.std.proofs.Common.{◌≡◌, ◌≤◌, ℕ, ◌-◌, Bool, true, false, cond, ◌==◌, if◌then◌else◌, IsSome, IfSome, List, [], ◌∷◌, Option, Some, None, option_map, inl, inr, refl, sym, ap, subst, ◌∙◌}
 use Rattle.std.specs.Prelude.{is_some, nat_le}
 use Rattle.std.specs.Ordering.{nat_cmp}
 use Rattle.std.specs.FinMap.{FinMap, get, insert}
@@ -7,8 +7,10 @@ use Rattle.std.proofs.lemmas.Bool.{and_from, cases_eq, le-leb}
 use Rattle.graph_model.specs.Graph.{lists}
 use Rattle.graph_model.specs.declared.entity.Entity.{Entity}
 use Rattle.graph_model.specs.declared.entity.Record.{Record}
-use Rattle.core_steps.specs.Core.{Hand}
-use Rattle.core_steps.specs.Rows.{channel_step, given, pinned as core_pinned}
+use Rattle.core_steps.specs.Core.{Hand, is_idle}
+use Rattle.channel.specs.Stages.{FitsStage}
+use Rattle.channel.proofs.Rest.{grey_pin, marked_pin, no_mark, phase_pin}
+use Rattle.core_steps.specs.Rows.{channel_step, given, greyed, marks_pin, pinned as core_pinned}
 use Rattle.core_steps.specs.declared.event.Event.{Event}
 use Rattle.core_steps.specs.declared.event.Event.TheVariants.{Pin, Unpin}
 use Rattle.oid_table.specs.MapLaws.{get-insert_same, get-insert_other}
@@ -40,14 +42,14 @@ row_changed rows old new id change P same some changes each =
 
 -- what holds of each row, whatever its state, holds once a row has another state
 pub each_row : (rows : FinMap nat_cmp Row) (id : ℕ) (row : Row) (s : State) (P : ℕ → Row → Type 0) → get rows id ≡ Some row
-    → ((x : ℕ) (r : Row) → P x r → P x (with_state s r)) → ((x : ℕ) (r : Row) → get rows x ≡ Some r → P x r)
+    → (P id row → P id (with_state s row)) → ((x : ℕ) (r : Row) → get rows x ≡ Some r → P x r)
     → (x : ℕ) (r : Row) → get (insert rows id (with_state s row)) x ≡ Some r → P x r
 each_row rows id row s P is any each x r found = elim (cases_eq x id) as (λ _. P x r) [
   | inl same ↦
       let here = subst (λ (y : ℕ). get (insert rows id (with_state s row)) y ≡ Some r) same found in
       let first = get-insert_same rows id (with_state s row) in
       let new : with_state s row ≡ r = cc in
-      subst (λ (y : ℕ). P y r) (sym same) (subst (P id) new (any id row (each id row is)))
+      subst (λ (y : ℕ). P y r) (sym same) (subst (P id) new (any (each id row is)))
   | inr differs ↦ each x r (sym (get-insert_other rows id (with_state s row) x differs) ∙ found)
 ]
 
@@ -67,7 +69,7 @@ before_still reads number (slot ∷ slots) id row s stands =
       | false ↦ later
     ]) stands
 
-module _ {D : Type 0} (tells : Bool) (reads : D → ℕ → List ℕ) (c : ChannelState D) (id : ℕ) (row : Row) (s : State) (is : get c.rows id ≡ Some row) where
+module _ {D : Type 0} (tells : Bool) (reads : D → ℕ → List ℕ) (c : ChannelState D) (id : ℕ) (row : Row) (s : State) (is : get c.rows id ≡ Some row) (fits : FitsStage c.phase row → FitsStage c.phase (with_state s row)) where
   abbrev changed : ChannelState D
   changed = record c { rows = insert c.rows id (with_state s row) }
 
@@ -75,10 +77,12 @@ module _ {D : Type 0} (tells : Bool) (reads : D → ℕ → List ℕ) (c : Chann
   on_disk_still on = record {
     of_disk = on.of_disk;
     whole = on.whole;
-    rows = each_row c.rows id row s (Stands (reads c.files.disk) (last_part c)) is (λ x r. stands_still (reads c.files.disk) (last_part c) x r s) on.rows;
+    rows = each_row c.rows id row s (Stands (reads c.files.disk) (last_part c)) is (stands_still (reads c.files.disk) (last_part c) id row s) on.rows;
     before = λ unconfirmed. each_row c.rows id row s (λ x r. IfSome (row_before c.replaced x r) (Stands (reads c.files.disk) (last_part c - 1) x)) is
-        (λ x r. before_still (reads c.files.disk) (last_part c - 1) c.replaced x r s) (on.before unconfirmed);
+        (before_still (reads c.files.disk) (last_part c - 1) c.replaced id row s) (on.before unconfirmed);
     types = on.types;
+    right = on.right;
+    waits = λ unconfirmed. let w = on.waits unconfirmed in record { some = w.some; newest = w.newest; right = w.right };
   }
 
   sound_still : IsSound tells reads c → IsSound tells reads changed
@@ -87,8 +91,8 @@ module _ {D : Type 0} (tells : Bool) (reads : D → ℕ → List ℕ) (c : Chann
     channels = sound.channels;
     sizes = sound.sizes;
     rows = λ x r found.
-        let right = each_row c.rows id row s (IsRightRow c) is (λ x r right. record { live = right.live; id_is = right.id_is; header = right.header }) sound.rows x r found in
-        record { live = right.live; id_is = right.id_is; header = right.header };
+        let right = each_row c.rows id row s (IsRightRow c) is (λ right. record { live = right.live; id_is = right.id_is; header = right.header; fits = fits right.fits }) sound.rows x r found in
+        record { live = right.live; id_is = right.id_is; header = right.header; fits = right.fits };
     types = sound.types;
     types_file = sound.types_file;
     on_disk = λ tells up. on_disk_still (sound.on_disk tells up);
@@ -98,12 +102,12 @@ module _ {D : Type 0} (tells : Bool) (reads : D → ℕ → List ℕ) (c : Chann
   room_still spare room = record { rows = room.rows; files = room.files }
 
 -- a channel stays sound, and has as much room, where a row gets another state
-pub invariant_still : {D : Type 0} (tells : Bool) (reads : D → ℕ → List ℕ) (c : ChannelState D) (old new : Table Row) (id : ℕ) (state : Row → State) → c.rows ≡ old.contents
+pub invariant_still : {D : Type 0} (tells : Bool) (reads : D → ℕ → List ℕ) (c : ChannelState D) (old new : Table Row) (id : ℕ) (state : Row → State) → ((row : Row) → FitsStage c.phase row → FitsStage c.phase (with_state (state row) row)) → c.rows ≡ old.contents
     → IsSome (get c.rows id) → ChangesRow old new id (λ row. with_state (state row) row) → IsSound tells reads c → HasRoom c old.spare
     → IsSound tells reads (record c { rows = new.contents }) × HasRoom (record c { rows = new.contents }) new.spare
-invariant_still tells reads c old new id state same some changes sound room =
+invariant_still tells reads c old new id state fits same some changes sound room =
     row_changed c.rows old new id (λ row. with_state (state row) row) (λ rows spare. IsSound tells reads (record c { rows = rows }) × HasRoom (record c { rows = rows }) spare) same some changes
-    (λ row is. (sound_still tells reads c id row (state row) is sound, room_still tells reads c id row (state row) is old.spare room))
+    (λ row is. (sound_still tells reads c id row (state row) is (fits row) sound, room_still tells reads c id row (state row) is (fits row) old.spare room))
 
 -- THE CORE
 
@@ -121,22 +125,31 @@ module _ {D : Type 0} (reads : D → ℕ → List ℕ) (c : ChannelState D) (id 
     abbrev IsThen : Event → FinMap nat_cmp Row → Type 0
     IsThen event rows = channel_step (place_with c part) (core_of reads c) h event ≡ Some (core_of reads (record c { rows = rows }), h)
 
-    pinned_row : lists (core_of reads c).table id ≡ true → 1 ≤ h.credit → (row : Row) → get c.rows id ≡ Some row → IsThen (Pin id) (insert c.rows id (pinned row))
-    pinned_row listed credit row is =
+    pinned_row : is_idle (core_of reads c).phase ≡ true → lists (core_of reads c).table id ≡ true → 1 ≤ h.credit → (row : Row) → get c.rows id ≡ Some row → IsThen (Pin id) (insert c.rows id (pinned row))
+    pinned_row idle listed credit row is =
         let may = and_from (lists (core_of reads c).table id) (nat_le 1 h.credit) listed (le-leb 1 h.credit credit) in
         let table = table_same (reads c.files.disk) c.rows id row (pinned row) is refl in
         let pins = pins_pinned c.rows id row is in
-        ap (λ t. given t (core_pinned id (core_of reads c), h)) may ∙ (λ i. Some (record (core_of reads c) { table = sym table i; pins = sym pins i }, h))
+        let core = core_of reads c in
+        let marked = marked_pin c.phase c.rows id row true is in
+        let grey = grey_pin c.rows id row true is in
+        let phase = phase_pin c.phase c.rows id row true is in
+        ap (λ t. given t (cond (marks_pin id core.phase core) (greyed id (core_pinned id core, h)) (core_pinned id core, h))) may
+        ∙ ap (λ t. Some (cond t (greyed id (core_pinned id core, h)) (core_pinned id core, h))) (no_mark id core.phase core idle)
+        ∙ (λ i. Some (record core { table = sym table i; pins = sym pins i; marked = sym marked i; grey = sym grey i; phase = sym phase i }, h))
 
     unpinned_row : (row : Row) → get c.rows id ≡ Some row → IsThen (Unpin id) (insert c.rows id (unpinned row))
     unpinned_row row is =
         let table = table_same (reads c.files.disk) c.rows id row (unpinned row) is refl in
         let pins = pins_unpinned c.rows id row is in
-        λ i. Some (record (core_of reads c) { table = sym table i; pins = sym pins i }, h)
+        let marked = marked_pin c.phase c.rows id row false is in
+        let grey = grey_pin c.rows id row false is in
+        let phase = phase_pin c.phase c.rows id row false is in
+        λ i. Some (record (core_of reads c) { table = sym table i; pins = sym pins i; marked = sym marked i; grey = sym grey i; phase = sym phase i }, h)
 
     -- the event is a pin, where no cycle marks
-    pub pin_event : (old new : Table Row) → c.rows ≡ old.contents → ChangesRow old new id pinned → lists (core_of reads c).table id ≡ true → 1 ≤ h.credit → IsThen (Pin id) new.contents
-    pin_event old new same changes listed credit = row_changed c.rows old new id pinned (λ rows spare. IsThen (Pin id) rows) same (has_row listed) changes (pinned_row listed credit)
+    pub pin_event : (old new : Table Row) → c.rows ≡ old.contents → ChangesRow old new id pinned → is_idle (core_of reads c).phase ≡ true → lists (core_of reads c).table id ≡ true → 1 ≤ h.credit → IsThen (Pin id) new.contents
+    pin_event old new same changes idle listed credit = row_changed c.rows old new id pinned (λ rows spare. IsThen (Pin id) rows) same (has_row listed) changes (pinned_row idle listed credit)
 
     -- it takes a pin away
     pub unpin_event : (old new : Table Row) → c.rows ≡ old.contents → IsSome (get c.rows id) → ChangesRow old new id unpinned → IsThen (Unpin id) new.contents

@@ -13,7 +13,7 @@ use Rattle.channel_files.specs.Heads.{lacks_room}
 use Rattle.channel.specs.State.{ChannelState}
 use Rattle.channel.specs.OnDisk.{IsOnDisk}
 use Rattle.channel.specs.Sound.{IsSound, HasRoom}
-use Rattle.channel.proofs.OnDisks.{KeepsRows, on_disk_still}
+use Rattle.channel.proofs.OnDisks.{KeepsRows, on_disk_still, waits_same}
 
 -- files of another disk
 pub record SameFiles {D : Type 0} (old new : Channel D) : Type 0 where
@@ -34,7 +34,7 @@ module _ {D : Type 0} (old : ChannelState D) (files : Channel D) (types : Option
     sizes = subst IsInRange (sym same.sizes) was.sizes;
     rows = λ id row is.
         let right = was.rows id row is in
-        record { live = ap (λ (t : Transactions). is_live t.inventory.state.files row.file) same.transactions ∙ right.live; id_is = right.id_is; header = right.header };
+        record { live = ap (λ (t : Transactions). is_live t.inventory.state.files row.file) same.transactions ∙ right.live; id_is = right.id_is; header = right.header; fits = right.fits };
     types = on_channel_0;
     types_file = types_file;
     on_disk = on_disk;
@@ -56,6 +56,10 @@ module _ {D : Type 0} (old : ChannelState D) (files : Channel D) (types : Option
     confirmed = same.confirmed;
     rows = refl;
     replaced = refl;
+    phase = refl;
+    next = ap (λ (t : Transactions). t.inventory.state.next_id) same.transactions;
+    number = refl;
+    channels = refl;
   }
 
 -- a call that only read
@@ -67,6 +71,8 @@ module _ {D : Type 0} (tells : Bool) (reads : D → ℕ → List ℕ) (old : Cha
       on_disk_still reads old (called old files old.types ending failed old.tried) (keeps_rows old files old.types ending failed old.tried reads same (ap content_of (read told))) there
       (subst (λ (t : Transactions). IsOfDisk t (reads files.disk)) (sym same.transactions) (subst (IsOfDisk old.files.transactions) (sym (read told)) there.of_disk))
       (subst (λ (r : ℕ → List ℕ). IfSome old.types (λ log. IsOf log (r 1))) (sym (read told)) there.types)
+      (waits_same reads old (called old files old.types ending failed old.tried) (keeps_rows old files old.types ending failed old.tried reads same (ap content_of (read told))) there
+      (ap (λ (t : Transactions). t.inventory.state) same.transactions))
 
   pub sound_read : IsSound tells reads (called old files old.types ending failed old.tried)
   sound_read = sound_called old files old.types ending failed old.tried tells reads was same was.types was.types_file read_on_disk

@@ -1,5 +1,5 @@
 -- The entity that bytes spell is the one that they were written for, and the other way round.
-use Rattle.std.proofs.Common.{◌≡◌, ◌≤◌, ◌<◌, ◌+◌, ◌*◌, ◌^◌, ℕ, zero, suc, List, [], ◌∷◌, ◌++◌, length, map, drop, nat_le, Option, Some, None, unwrap_or, refl, sym, ap, ◌∙◌, append_assoc, arith, length-append, length-drop}
+use Rattle.std.proofs.Common.{◌≡◌, ◌≤◌, ◌<◌, ◌+◌, ◌*◌, ◌^◌, ℕ, zero, suc, List, [], ◌∷◌, ◌++◌, length, map, drop, take, nat_le, Option, Some, None, unwrap_or, refl, sym, ap, ◌∙◌, append_assoc, arith, length-append, length-drop}
 use Rattle.std.specs.List.{AllByRecursion}
 use Rattle.std.proofs.lemmas.Bool.{cond-true, le-leb}
 use Rattle.std.proofs.lemmas.Grind.{flat_map-append}
@@ -15,7 +15,8 @@ use Rattle.entity_form.specs.declared.places.Header.{Header}
 use Rattle.entity_form.specs.Spelling.{IsHeaderOf, entity_bytes, numbers_bytes}
 use Rattle.entity_form.proofs.Spellings.{BeginsWithHeader, entity_read, length-entity_bytes, length-numbers_bytes}
 use Rattle.channel_files.specs.Whole.{header_of}
-use Rattle.channel_files.proofs.NumbersInFront.{number_there}
+use Rattle.data_file.specs.Headers.{BeginsWith}
+use Rattle.channel_files.proofs.NumbersInFront.{number_in_front, number_there}
 use Rattle.channel.specs.Entities.{numbers_in, entity_in, header_for, chunk_for}
 use Rattle.channel.specs.Parts.{IsRightRecord, records_in}
 
@@ -95,6 +96,19 @@ header_read bytes h rest begins =
     ∙ ap (λ (b : Option ℕ). header_from (Some h.length) b (number_at 8 bytes 16) (number_at 8 bytes 24)) begins.type_id_is
     ∙ ap (λ (c : Option ℕ). header_from (Some h.length) (Some h.type_id) c (number_at 8 bytes 24)) begins.id_is
     ∙ ap (λ (d : Option ℕ). header_from (Some h.length) (Some h.type_id) (Some h.id) d) begins.count_is
+
+-- bytes that were read to the front of others begin with the header that was found there
+pub header_in_front : (out : List ℕ) (n : ℕ) (h : Header) → 32 ≤ n → n ≤ length out → BeginsWith (take 32 out) h → header_of (take n out) ≡ h
+header_in_front out n h long within begins =
+    let same : (at : ℕ) → at + 8 ≤ 32 → number_at 8 (take n out) at ≡ number_at 8 (take 32 out) at =
+    λ at fits. number_in_front n at out (omega (arith, fits, long)) within ∙ sym (number_in_front 32 at out fits (omega (arith, long, within))) in
+    header_read (take n out) h (drop 32 (take n out)) (record {
+      length_is = same 0 (omega arith) ∙ begins.length;
+      type_id_is = same 8 (omega arith) ∙ begins.type_id;
+      id_is = same 16 (omega arith) ∙ begins.id;
+      count_is = same 24 (omega arith) ∙ begins.count;
+      behind = refl;
+    })
 
 pub header_spelled : (r : Record) → IsRightRecord r → header_of (spelled r) ≡ header_for r
 header_spelled r is = header_read (spelled r) (header_for r) (behind_header r) (spelled_begins r is)

@@ -68,17 +68,17 @@ spot_right at (r ∷ rs) x s all is = (elim (nat_eq x r.id) as (λ (b : Bool). c
     of_same : (a b : Spot) → ◌≡◌ {A = Option Spot} (Some a) (Some b) → a.of ≡ b.of
     of_same a b e = cc
 
-module _ (old new : ℕ → List ℕ) (last number : ℕ) (place : Place) (rs : List Record) (part : IsPart rs) (rows : FinMap nat_cmp Row)
+module _ (odd : Bool) (old new : ℕ → List ℕ) (last number : ℕ) (place : Place) (rs : List Record) (part : IsPart rs) (rows : FinMap nat_cmp Row)
     (stood : (id : ℕ) (row : Row) → get rows id ≡ Some row → Stands old last id row) (whole : HasWholeChunks new)
     (table : IsSameTable (with_chunk (chunk_of number place (chunk_for rs)) (table_of old last)) (table_of new number)) where
   abbrev new_rows : FinMap nat_cmp Row
-  new_rows = rows_behind place.file place.at (map header_for rs) rows
+  new_rows = rows_behind odd place.file place.at (map header_for rs) rows
 
   abbrev spot : ℕ → Option Spot
   spot id = spot_of place.at rs id
 
-  row_now : (id : ℕ) (o : Option Spot) → spot id ≡ o → get new_rows id ≡ option_or (option_map (spot_row place.file) o) (get rows id)
-  row_now id o is = get_rows_behind place.file place.at rs rows id part.ordered ∙ ap (λ (o : Option Spot). option_or (option_map (spot_row place.file) o) (get rows id)) is
+  row_now : (id : ℕ) (o : Option Spot) → spot id ≡ o → get new_rows id ≡ option_or (option_map (spot_row odd place.file) o) (get rows id)
+  row_now id o is = get_rows_behind odd place.file place.at rs rows id part.ordered ∙ ap (λ (o : Option Spot). option_or (option_map (spot_row odd place.file) o) (get rows id)) is
 
   table_now : (id : ℕ) (o : Option Spot) → spot id ≡ o → table_of new number id ≡ option_or (option_map (occurrence_at place.file) o) (table_of old last id)
   table_now id o is =
@@ -86,10 +86,10 @@ module _ (old new : ℕ → List ℕ) (last number : ℕ) (place : Place) (rs : 
       ∙ ap (λ (o : Option Spot). option_or (option_map (occurrence_at place.file) o) (table_of old last id)) is
 
   -- a record of the part stands where its row says
-  record_stands : (id : ℕ) (s : Spot) → spot id ≡ Some s → StandsAs new number id (spot_row place.file s) (spelled s.of)
+  record_stands : (id : ℕ) (s : Spot) → spot id ≡ Some s → StandsAs new number id (spot_row odd place.file s) (spelled s.of)
   record_stands id s is =
       let right = spot_right place.at rs id s part.entities is in
-      stands_as new number id (spot_row place.file s) (spelled s.of) whole
+      stands_as new number id (spot_row odd place.file s) (spelled s.of) whole
       (table_now id (Some s) is ∙ ap (λ (n : ℕ). Some (record { id = n; file = place.file; at = s.at; bytes = spelled s.of })) (spot_id place.at rs id s is))
       (header_spelled s.of right)
 
@@ -101,7 +101,7 @@ module _ (old new : ℕ → List ℕ) (last number : ℕ) (place : Place) (rs : 
   rows_stand id row is = (elim (spot id) as (λ (o : Option Spot). spot id ≡ o → Stands new number id row) [
     | None ↦ λ none. (other_stands id row none (sym (row_now id None none) ∙ is)).stands
     | Some s ↦ λ some.
-        let same : spot_row place.file s ≡ row = some_same (spot_row place.file s) row (sym (row_now id (Some s) some) ∙ is) in
+        let same : spot_row odd place.file s ≡ row = some_same (spot_row odd place.file s) row (sym (row_now id (Some s) some) ∙ is) in
         subst (Stands new number id) same (record_stands id s some).stands
   ]) refl
     where

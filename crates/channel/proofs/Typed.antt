@@ -19,6 +19,10 @@ use Rattle.channel_files.specs.Heads.{full_record}
 use Rattle.channel_files.specs.Outcomes.{IsAppended, Stays}
 use Rattle.channel_files.specs.Shows.{Shows}
 use Rattle.channel_files.proofs.Appended.{each_shows}
+use Rattle.channel.specs.Images.{log_header}
+use Rattle.channel.specs.ChunkRule.{AreRightTo}
+use Rattle.channel.specs.Shown.{EndsAt, disk_held}
+use Rattle.channel.proofs.ShownParts.{ends_shown}
 use Rattle.channel.specs.declared.fault.ChannelFault.{ChannelFault}
 use Rattle.channel.specs.declared.fault.ChannelFault.TheVariants as channel
 use Rattle.channel.specs.Faults.{UnlessFault}
@@ -27,7 +31,7 @@ use Rattle.channel.specs.Core.{core_of, last_part, log_next_id, payloads_kept, t
 use Rattle.channel.specs.OnDisk.{AgreesWithImages, HoldsChannel, HoldsWith}
 use Rattle.channel.specs.Sound.{IsSound, HasRoom}
 use Rattle.channel.proofs.Images.{holds_shown, kept_in}
-use Rattle.channel.proofs.OnDisks.{KeepsRows, core_still, on_disk_still}
+use Rattle.channel.proofs.OnDisks.{KeepsRows, core_still, on_disk_still, waits_same}
 use Rattle.channel.proofs.Sounds.{SameFiles, called, keeps_rows, room_called, sound_called}
 
 -- the log with one record more, of so many bytes
@@ -73,7 +77,7 @@ module _ {D A : Type 0} {tells : Bool} {reads : D → ℕ → List ℕ} {leaves 
   -- ---- the channel
 
   module _ (ending : Ending) (failed : Bool) (tried : Option Tried) where
-    keeps : IsTrue tells → KeepsRows reads old (called old new (Some log_now) ending failed tried)
+    pub keeps : IsTrue tells → KeepsRows reads old (called old new (Some log_now) ending failed tried)
     keeps told = keeps_rows old new (Some log_now) ending failed tried reads same_files (call.stays.content told)
 
     pub sound_typed : old.number ≡ 0 → log_now.file ≡ log.file → (IsTrue tells → failed ≡ false → IsOf log_now (reads new.disk 1))
@@ -83,7 +87,8 @@ module _ {D A : Type 0} {tells : Bool} {reads : D → ℕ → List ℕ} {leaves 
         (file ∙ subst (λ (o : Option LogState). IfSome o (λ log. log.file ≡ 1)) call.types_are call.was.types_file)
         (λ told fine.
         on_disk_still reads old (called old new (Some log_now) ending failed tried) (keeps told)
-        (call.was.on_disk told call.sound) (call.stays.of_disk told) (there told fine))
+        (call.was.on_disk told call.sound) (call.stays.of_disk told) (there told fine)
+        (waits_same reads old (called old new (Some log_now) ending failed tried) (keeps told) (call.was.on_disk told call.sound) (ap (λ (t : Transactions). t.inventory.state) call.stays.transactions)))
 
     pub room_typed : (spare : ℕ) → HasRoom old spare → HasRoom (called old new (Some log_now) ending failed tried) spare
     room_typed spare room = room_called old new (Some log_now) ending failed tried spare room same_files (λ _. call.sound)
@@ -136,12 +141,12 @@ module _ {D A : Type 0} {tells : Bool} {reads : D → ℕ → List ℕ} {leaves 
   -- ---- each image
 
   shown_still : IsTrue tells → AgreesWithImages reads leaves old
-      → EachImage (leaves new.disk) (Shows new.transactions.log.header (last_part old) (log_next_id old) 0 (content_of (reads old.files.disk)))
+      → EachImage (leaves new.disk) (Shows new.transactions.log.header (last_part old) (log_next_id old) 0 0 (content_of (reads old.files.disk)))
   shown_still told agrees image left =
       let header = new.transactions.log.header in
       let shown = each_shows new.transactions (reads new.disk) (leaves new.disk) (call.stays.of_disk told) (call.stays.as_read told agrees.files) image left in
-      subst (λ (l : List Chunk). Shows header (last_part old) (log_next_id old) 0 l image) (call.stays.content told)
-      (subst (λ (t : Transactions). Shows header t.inventory.state.last t.inventory.state.next_id 0 (content_of (reads new.disk)) image) call.stays.transactions shown)
+      subst (λ (l : List Chunk). Shows header (last_part old) (log_next_id old) 0 0 l image) (call.stays.content told)
+      (subst (λ (t : Transactions). Shows header t.inventory.state.last t.inventory.state.next_id 0 0 (content_of (reads new.disk)) image) call.stays.transactions shown)
 
   holds_with : IsTrue tells → AgreesWithImages reads leaves old → (types : List (List ℕ)) (image : ℕ → List ℕ) → IsImage (leaves new.disk) image
       → IsLogOf log.header types (image 1) → HoldsWith reads old types image
@@ -159,6 +164,13 @@ module _ {D A : Type 0} {tells : Bool} {reads : D → ℕ → List ℕ} {leaves 
         | inl without ↦ inl (holds_with told agrees kept image left (subst (λ (l : List (List ℕ)). IsLogOf log.header l (image 1)) same without))
         | inr with ↦ inr (holds_with told agrees (kept ++ text ∷ []) image left (subst (λ (l : List (List ℕ)). IsLogOf log.header (l ++ text ∷ []) (image 1)) same with))
       ]
+
+  -- so each image ends with what the disk held
+  pub ends_typed : IsTrue tells → AgreesWithImages reads leaves old → old.files.transactions.log.header ≡ log_header old.channels old.number → (most : ℕ)
+      → AreRightTo old.channels old.number most (last_part old) (content_of (reads old.files.disk))
+      → EachImage (leaves new.disk) (EndsAt old.channels old.number (last_part old) most (disk_held reads old))
+  ends_typed told agrees header most right image left = ends_shown reads leaves old (call.was.on_disk told call.sound) agrees header most right image
+      (subst (λ (t : Transactions). Shows t.log.header (last_part old) (log_next_id old) 0 0 (content_of (reads old.files.disk)) image) call.stays.transactions (shown_still told agrees image left))
 
 -- where a stop leaves what is read and nothing else, it leaves the log
 pub synced_log : (log : LogState) (bytes : List ℕ) (leaves : List ℕ → Bool) → Only bytes leaves → IsOf log bytes → Each leaves (IsLogOf log.header (payloads_of bytes))

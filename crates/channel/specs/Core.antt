@@ -1,18 +1,17 @@
 -- What a channel stands for in the core, and what it tells of itself.
-use Rattle.std.specs.Prelude.{ℕ, ◌-◌, ◌^◌, Bool, false, cond, ◌||◌, nat_lt, nat_eq, List, [], take, drop, map, Option, Some, None}
-use Rattle.std.specs.List.{filter}
+use Rattle.std.specs.Prelude.{ℕ, ◌-◌, ◌^◌, Bool, false, cond, ◌||◌, nat_lt, nat_le, List, [], take, drop, map, Option, Some, None}
 use Rattle.std.specs.Ordering.{nat_cmp}
 use Rattle.std.specs.FinMap.{FinMap, entries}
 use Rattle.gated_log.specs.State.{LogState}
 use Rattle.gated_log.specs.Log.{payloads_of}
 use Rattle.graph_model.specs.declared.entity.Record.{Record}
 use Rattle.core_steps.specs.declared.state.CoreChannel.{CoreChannel}
-use Rattle.core_steps.specs.declared.state.Phase.TheVariants.{Idle}
 use Rattle.core_steps.specs.declared.state.Place.{Place}
 use Rattle.core_steps.specs.Rows.{Channel}
 use Rattle.core_steps.specs.Told.{Told}
 use Rattle.entity_index.specs.declared.row.Row.{Row}
 use Rattle.channel.specs.Entities.{entity_in}
+use Rattle.channel.specs.Stages.{ids_where, is_grey, is_marked, phase_in}
 use Rattle.channel.specs.State.{ChannelState}
 
 -- the bytes that stand where a row says
@@ -28,7 +27,7 @@ table_in reads rows = map (record_at reads) (entries rows)
 
 -- the ids whose rows are pinned, rising
 abbrev pub pins_in : FinMap nat_cmp Row → List ℕ
-pins_in rows = map (λ (e : ℕ × Row). e.0) (filter (λ (e : ℕ × Row). e.1.state.pinned) (entries rows))
+pins_in rows = ids_where (λ (row : Row). row.state.pinned) rows
 
 -- the payloads of a log that is kept, without one that was tried in vain; none where there is no log
 abbrev pub payloads_kept : List ℕ → Option LogState → List (List ℕ)
@@ -52,14 +51,18 @@ module _ {D : Type 0} where
   abbrev pub log_next_id : ChannelState D → ℕ
   log_next_id c = c.files.transactions.inventory.state.next_id
 
-  -- the channel of the core; no cycle marks or sweeps yet
+  -- the next id in front of the log's last entry
+  abbrev pub next_before : ChannelState D → ℕ
+  next_before c = c.files.transactions.inventory.state.next_id_before
+
+  -- the channel of the core: what is marked, grey and left to visit stands in the rows
   abbrev pub core_of : (D → ℕ → List ℕ) → ChannelState D → CoreChannel
   core_of reads c = record {
     table = table_in (reads c.files.disk) c.rows;
-    marked = [];
-    grey = [];
+    marked = ids_where (is_marked c.phase) c.rows;
+    grey = ids_where is_grey c.rows;
     pins = pins_in c.rows;
-    phase = Idle 0;
+    phase = phase_in c.phase c.rows;
     last_part = last_part c;
     confirmed = c.files.confirmed;
   }
@@ -74,9 +77,9 @@ module _ {D : Type 0} where
 
   -- one of its logs takes no further record, or the last number of a data file is in use
   abbrev pub is_full : ChannelState D → Bool
-  is_full c = is_over c.files.transactions.log.length || (is_over_in c.types || nat_eq c.files.transactions.inventory.state.created (2 ^ 31 - 1))
+  is_full c = is_over c.files.transactions.log.length || (is_over_in c.types || nat_le (2 ^ 31 - 1) c.files.transactions.inventory.state.created)
 
-  -- what the channel tells: of the core and of types only where its disk tells what it reads; each store has all channels
+  -- what the channel tells: of the core and of types only where its disk tells what it reads; a log of format 1 names no channels of a store
   abbrev pub told_of : Bool → (D → ℕ → List ℕ) → (D → ℕ) → ChannelState D → Told
   told_of tells reads faults c = record {
     part = cond tells (Some (Channel (core_of reads c))) None;
@@ -85,7 +88,7 @@ module _ {D : Type 0} where
     failed = c.failed;
     full = is_full c;
     next_id = log_next_id c;
-    log_channels = 2 ^ c.channels - 1;
+    log_channels = 0;
     prepared = c.prepared;
     types = cond tells (types_kept reads c) [];
     tried = c.tried;

@@ -1,5 +1,5 @@
 -- The entity that bytes spell, and the header that an entity is spelled with.
-use Rattle.std.specs.Prelude.{ℕ, zero, suc, ◌+◌, ◌*◌, List, [], ◌∷◌, length, drop}
+use Rattle.std.specs.Prelude.{◌≡◌, ℕ, zero, suc, ◌+◌, ◌*◌, List, [], ◌∷◌, length, drop}
 use Rattle.std.specs.List.{flat_map}
 use Rattle.byteorder.specs.Endian.{little_number}
 use Rattle.graph_model.specs.Graph.{entity_size}
@@ -29,3 +29,7 @@ header_for r = record { length = entity_size r.entity; type_id = r.entity.type_i
 -- the bytes of records, one after another
 abbrev pub chunk_for : List Record → List ℕ
 chunk_for records = flat_map (λ (r : Record). entity_bytes (r.id, r.entity)) records
+
+-- the bytes spell an entity of this id
+abbrev pub IsSpelling : ℕ → List ℕ → Type 0
+IsSpelling id bytes = (e : Entity) × (bytes ≡ entity_bytes (id, e))

@@ -9,3 +9,11 @@ pub mod OnDisk
 pub mod Sound
 pub mod Faults
 pub mod Full
+pub mod Images
+pub mod ChunkRule
+pub mod Shown
+pub mod Left
+pub mod Turns
+pub mod Stages
+pub mod Given
+pub mod Holding

@@ -1,5 +1,5 @@
 -- How a channel stands on its disk, in what is read and in each image.
-use Rattle.std.specs.Prelude.{◌≡◌, ◌≢◌, ℕ, ◌-◌, ◌==◌, Bool, if◌then◌else◌, List, [], ◌∷◌, option_map, Option, Some, IfSome}
+use Rattle.std.specs.Prelude.{◌≡◌, ◌≢◌, ◌≤◌, ℕ, ◌-◌, ◌==◌, Bool, if◌then◌else◌, List, [], ◌∷◌, option_map, Option, Some, IfSome}
 use Rattle.std.specs.FinMap.{get}
 use Rattle.gated_log.specs.Log.{IsLogOf, payloads_of, Each}
 use Rattle.gated_log.specs.Of.{IsOf}
@@ -8,14 +8,17 @@ use Rattle.graph_model.specs.declared.entity.Entity.{Entity}
 use Rattle.graph_model.specs.declared.entity.Record.{Record}
 use Rattle.transactions_file.specs.Inventory.{State, inventory_of}
 use Rattle.channel_files.specs.Channel.{IsOfDisk}
+use Rattle.channel_files.specs.Chunks.{content_of}
 use Rattle.channel_files.specs.Images.{EachAsRead}
+use Rattle.channel_files.specs.Shows.{newest_of}
 use Rattle.channel_files.specs.Table.{Occurrence, table_of}
 use Rattle.channel_files.specs.Whole.{HasWholeChunks, header_of}
 use Rattle.entity_index.specs.declared.row.Row.{Row}
 use Rattle.channel.specs.declared.part.Slot.{Slot}
+use Rattle.channel.specs.ChunkRule.{AreRightTo}
 use Rattle.channel.specs.Entities.{entity_in}
 use Rattle.channel.specs.State.{ChannelState}
-use Rattle.channel.specs.Core.{bytes_at, last_part, log_next_id, core_of, types_kept}
+use Rattle.channel.specs.Core.{bytes_at, last_part, log_next_id, next_before, core_of, types_kept}
 
 -- the entity of an id stands where the row says, is the last one of it in the chunks up to this number, and begins with the row's header
 pub record Stands (reads : ℕ → List ℕ) (number id : ℕ) (row : Row) : Type 0 where
@@ -27,6 +30,12 @@ abbrev pub row_before : List Slot → ℕ → Row → Option Row
 row_before [] id row = Some row
 row_before (s ∷ slots) id row = if s.header.id == id then s.before else row_before slots id row
 
+-- a part that is not confirmed is the log's last entry, and in front of it the chunks keep the rule
+pub record HasBefore {D : Type 0} (reads : D → ℕ → List ℕ) (c : ChannelState D) : Type 0 where
+  pub some : 1 ≤ last_part c
+  pub newest : newest_of c.files.transactions.inventory.state.entry ≡ last_part c
+  pub right : AreRightTo c.channels c.number (next_before c) (last_part c - 1) (content_of (reads c.files.disk))
+
 -- what is read is what the channel keeps
 pub record IsOnDisk {D : Type 0} (reads : D → ℕ → List ℕ) (c : ChannelState D) : Type 0 where
   pub of_disk : IsOfDisk c.files.transactions (reads c.files.disk)
@@ -36,6 +45,9 @@ pub record IsOnDisk {D : Type 0} (reads : D → ℕ → List ℕ) (c : ChannelSt
   -- and at the number before the last part, while that is not confirmed, so is the row of before
   pub before : c.files.confirmed ≢ last_part c → (id : ℕ) (row : Row) → get c.rows id ≡ Some row → IfSome (row_before c.replaced id row) (Stands (reads c.files.disk) (last_part c - 1) id)
   pub types : IfSome c.types (λ log. IsOf log (reads c.files.disk 1))
+  pub waits : c.files.confirmed ≢ last_part c → HasBefore reads c
+  -- the chunks keep the rule
+  pub right : AreRightTo c.channels c.number (log_next_id c) (last_part c) (content_of (reads c.files.disk))
 
 -- each image has the logs that are read, and below the inventory's lengths the bytes that are read
 pub record AgreesWithImages {D : Type 0} (reads : D → ℕ → List ℕ) (leaves : D → ℕ → List ℕ → Bool) (c : ChannelState D) : Type 0 where

@@ -5,4 +5,4 @@ use Rattle.entity_index.specs.declared.row.Row.{Row}
 
 -- where the entity of this header stands; it is not pinned
 abbrev pub opened_row : ℕ → ℕ → Header → Row
-opened_row file at header = record { file = file; at = at; header = header; state = record { pinned = false; marked = false; grey = false; left = false; next = 0 } }
+opened_row file at header = record { file = file; at = at; header = header; state = record { pinned = false; marked = false; grey = false; swept_odd = false; next = 0 } }

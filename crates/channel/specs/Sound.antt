@@ -6,6 +6,7 @@ use Rattle.entity_form.specs.Spelling.{IsHeaderOf}
 use Rattle.channel_files.specs.Channel.{IsInRange}
 use Rattle.channel_files.specs.Heads.{lacks_room}
 use Rattle.entity_index.specs.declared.row.Row.{Row}
+use Rattle.channel.specs.Stages.{FitsStage}
 use Rattle.channel.specs.State.{ChannelState}
 use Rattle.channel.specs.OnDisk.{IsOnDisk}
 
@@ -14,6 +15,8 @@ pub record IsRightRow {D : Type 0} (c : ChannelState D) (id : ℕ) (row : Row) :
   pub live : is_live c.files.transactions.inventory.state.files row.file ≡ true
   pub id_is : row.header.id ≡ id
   pub header : IsHeaderOf row.header row.header.length
+  -- on an Idle channel no row is marked, grey or left
+  pub fits : FitsStage c.phase row
 
 pub record IsSound {D : Type 0} (tells : Bool) (reads : D → ℕ → List ℕ) (c : ChannelState D) : Type 0 where
   pub number : c.number < c.channels

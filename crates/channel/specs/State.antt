@@ -9,6 +9,7 @@ use Rattle.core_steps.specs.Told.{Tried}
 use Rattle.channel_files.specs.Channel.{Channel}
 use Rattle.entity_index.specs.declared.row.Row.{Row}
 use Rattle.channel.specs.declared.part.Slot.{Slot}
+use Rattle.channel.specs.declared.phase.Stage.{Stage}
 
 pub record ChannelState (D : Type 0) : Type 0 where
   pub number : ℕ
@@ -22,6 +23,10 @@ pub record ChannelState (D : Type 0) : Type 0 where
   pub prepared : Option (List Record)
   -- what the last part replaced, until it is confirmed
   pub replaced : List Slot
+  -- the ids whose entities are in memory: none as long as there is no cache. A call that reads or stores says nothing of which they are then
+  pub cached : List ℕ
+  -- where it stands in the collection cycles
+  pub phase : Stage
   pub ending : Ending
   pub failed : Bool
   pub tried : Option Tried

@@ -4,15 +4,21 @@ ghost use Rattle.std.specs.FinMap as finite;
 ghost use Rattle.store_io.specs.Whole.{EachImage};
 ghost use Rattle.gated_log.specs.Log.{Each, IsLogOf, payloads_of};
 ghost use Rattle.gated_log.specs.Of.{IsOf};
+ghost use Rattle.graph_model.specs.Graph.{lists};
 ghost use Rattle.core_steps.specs.declared.unit.Ending.TheVariants.{Sound};
 ghost use Rattle.channel_files.specs.Channel.{IsInRange, IsOfDisk};
 ghost use Rattle.channel_files.specs.Images.{EachAsRead};
 ghost use Rattle.channel_files.specs.Whole.{HasWholeChunks};
 ghost use Rattle.channel.specs.Core.{core_of, last_part};
-ghost use Rattle.channel.specs.OnDisk.{AgreesWithImages, HoldsChannel};
+ghost use Rattle.channel.specs.OnDisk.{HoldsChannel};
+ghost use Rattle.channel.specs.Left.{EndsOrTried, HoldsOrTried, IsLeft};
 ghost use Rattle.channel.specs.Sound.{IsSound};
+ghost use Rattle.channel_files.specs.Chunks.{content_of};
+ghost use Rattle.channel.specs.Images.{log_header};
+ghost use Rattle.channel.specs.ChunkRule.{AreRightTo};
 
 use crate::part::{Part, Slot, zeros};
+use crate::phase::Stage;
 use channel_files::{ChannelFiles, Sizes};
 use core_steps::Ending;
 use entity_index::EntityIndex;
@@ -50,6 +56,7 @@ pub struct Channel<D: Disk> {
     pub(crate) prepared: Option<Part>,
     /// What the last part replaced, until it is confirmed.
     pub(crate) replaced: Vec<Slot>,
+    pub(crate) phase: Stage,
     pub(crate) ending: Ending,
     pub(crate) failed: bool,
     pub(crate) tried: Option<Attempt>,
@@ -57,10 +64,11 @@ pub struct Channel<D: Disk> {
 }
 
 impl<D: Disk> Model for Channel<D> {
-    ghost use Rattle.std.specs.Prelude.{◌≡◌, length};
+    ghost use Rattle.std.specs.Prelude.{◌≡◌, [], length};
     ghost use Rattle.channel.specs.State.{ChannelState};
     ghost use Rattle.channel.specs.Attempts.{tried_of};
     ghost use Rattle.channel.specs.Sound.{IsSound, HasRoom};
+    ghost use Rattle.channel.specs.Left.{IsLeft};
 
     ghost Value = { ChannelState D };
 
@@ -79,6 +87,8 @@ impl<D: Disk> Model for Channel<D> {
       rows = c.index.contents;
       prepared = c.prepared;
       replaced = c.replaced.items;
+      cached = [];
+      phase = c.phase;
       ending = c.ending;
       failed = c.failed;
       tried = tried_of c.window.items c.tried;
@@ -92,10 +102,12 @@ impl<D: Disk> Model for Channel<D> {
       rows = c.index.contents;
       prepared = c.prepared;
       replaced = c.replaced.items;
+      cached = [];
+      phase = c.phase;
       ending = c.ending;
       failed = c.failed;
       tried = tried_of c.window.items c.tried;
-    } in IsSound D.tells D.reads state × HasRoom state c.index.spare × (length c.window.items ≡ 1048576) };
+    } in IsSound D.tells D.reads state × HasRoom state c.index.spare × (length c.window.items ≡ 1048576) × IsLeft D.tells D.reads D.leaves state };
 }
 
 /// A channel was not made, for want of memory.
@@ -123,6 +135,11 @@ impl<D: Disk> Channel<D> {
         requires of_disk { IsTrue D.tells → IsOfDisk log (D.reads disk) }
         requires whole { IsTrue D.tells → HasWholeChunks (D.reads disk) }
         requires types_of_disk { IsTrue D.tells → IfSome types (λ log. IsOf log (D.reads disk 1)) }
+        requires header { log.log.header ≡ log_header count number }
+        requires right { IsTrue D.tells → AreRightTo count number log.inventory.state.next_id log.inventory.state.last (content_of (D.reads disk)) }
+        // A stop leaves the logs that are read, and below the inventory's lengths the bytes that are read.
+        requires as_read { IsTrue D.tells → EachAsRead log (D.reads disk) (D.leaves disk) }
+        requires types_as_read { IsTrue D.tells → IfSome types (λ log. Each (D.leaves disk 1) (IsLogOf log.header (payloads_of (D.reads disk 1)))) }
 
         ensures ok { IfOk result (λ c. c ≡ record {
           number = number;
@@ -132,6 +149,8 @@ impl<D: Disk> Channel<D> {
           rows = finite.empty;
           prepared = None;
           replaced = [];
+          cached = [];
+          phase = Stage.Idle 0;
           ending = Sound;
           failed = false;
           tried = None;
@@ -150,6 +169,7 @@ impl<D: Disk> Channel<D> {
             index: EntityIndex::new(alloc),
             prepared: None,
             replaced: Vec::new(alloc),
+            phase: Stage::Idle { cycle: 0 },
             ending: Ending::Sound,
             failed: false,
             tried: None,
@@ -161,7 +181,11 @@ impl<D: Disk> Channel<D> {
     pub fn stands(&self)
         ensures sound { IsSound D.tells D.reads self.now }
         ensures read { IsTrue D.tells → self.now.failed ≡ false → HoldsChannel D.reads self.now (D.reads self.now.files.disk) }
-        ensures images { IsTrue D.tells → self.now.failed ≡ false → AgreesWithImages D.reads D.leaves self.now → EachImage (D.leaves self.now.files.disk) (HoldsChannel D.reads self.now) }
+        ensures left { IsLeft D.tells D.reads D.leaves self.now }
+        // At any moment each image has what the channel stands for, or this and what it tried in vain.
+        ensures images { IsTrue D.tells → EachImage (D.leaves self.now.files.disk) (HoldsOrTried D.reads self.now) }
+        // It ends with what the disk holds, or has this and the part that was tried.
+        ensures ends { IsTrue D.tells → EachImage (D.leaves self.now.files.disk) (EndsOrTried D.reads self.now) }
     {
         let _number = self.number;
     }
@@ -185,6 +209,20 @@ impl<D: Disk> Channel<D> {
         ensures { result ≡ self.now.ending }
     {
         self.ending
+    }
+
+    /// Whether a call of the disk failed. Such a channel makes no further one.
+    pub fn failed(&self) -> bool
+        ensures { result ≡ self.now.failed }
+    {
+        self.failed
+    }
+
+    /// Whether the table has an id. The disk is not read for it.
+    pub fn has(&self, id: u64) -> bool
+        ensures { result ≡ lists (core_of D.reads self.now).table id }
+    {
+        self.index.row(id).is_some()
     }
 
     /// How many ids the table has.

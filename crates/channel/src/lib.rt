@@ -4,11 +4,15 @@
 mod channel;
 mod fault;
 mod holding;
+mod laws;
 mod opening;
 mod part;
+mod phase;
 mod reading;
 mod storing;
 mod typing;
 
 pub use channel::{Channel, NewChannel};
 pub use fault::ChannelFault;
+pub use laws::{images_follow_what_is_held, parts_keep_the_rule};
+pub use phase::Stage;

@@ -1,20 +1,17 @@
 //! What a channel's table is filled with when it is opened.
-ghost use Rattle.std.specs.Prelude.{◌≡◌, ◌≤◌, true, false, length, None, Some, IsTrue, OnOk, OnErr, IfErr, IfSome, IsErrOf};
+ghost use Rattle.std.specs.Prelude.{◌≡◌, true, false, length, None, IsTrue, OnOk, OnErr, IfSome};
 ghost use Rattle.std.specs.FinMap as finite;
-ghost use Rattle.store_io.specs.Disk.{Rose};
 ghost use Rattle.entity_form.specs.Spelling.{IsHeaderOf};
 ghost use Rattle.transactions_file.specs.Files.{is_live};
-ghost use Rattle.channel_files.specs.Heads.{full_record};
-ghost use Rattle.channel_files.specs.Stores.{IsStore};
-ghost use Rattle.channel.specs.Core.{last_part};
-ghost use Rattle.channel.specs.Faults.{UnlessFault, ending_after, failed_after};
-ghost use Rattle.channel.specs.OnDisk.{AgreesWithImages, Stands};
+ghost use Rattle.channel.specs.Core.{last_part, told_of};
+ghost use Rattle.channel.specs.Turns.{IsTurn};
+ghost use Rattle.channel.specs.Holding.{holding};
+ghost use Rattle.channel.specs.OnDisk.{Stands};
 ghost use Rattle.channel.specs.Rows.{opened_row};
 
 use crate::channel::Channel;
-use crate::fault::{ChannelFault, note};
 use crate::part::Part;
-use channel_files::FilesFault;
+use crate::phase::Stage;
 use entity_form::Header;
 use entity_index::{Row, State};
 use graph_model::NoMemory;
@@ -32,7 +29,7 @@ fn opened_at(file: u64, at: u64, header: Header) -> Row
             pinned: false,
             marked: false,
             grey: false,
-            left: false,
+            swept_odd: false,
             next: 0,
         },
     }
@@ -53,6 +50,8 @@ impl<D: Disk> Channel<D> {
     /// Without memory nothing changes.
     pub fn found(&mut self, id: u64, file: u64, at: u64, header: Header) -> Result<(), NoMemory>
         requires new { finite.get self.old.rows id ≡ None }
+        requires idle { self.old.phase ≡ Stage.Idle 0 }
+        requires sound { self.old.failed ≡ false }
         requires confirmed { self.old.files.confirmed ≡ last_part self.old }
         requires live { is_live self.old.files.transactions.inventory.state.files file ≡ true }
         requires id_is { header.id ≡ id }
@@ -61,6 +60,8 @@ impl<D: Disk> Channel<D> {
 
         ensures ok { OnOk result (self.new ≡ record self.old { rows = finite.insert self.old.rows id (opened_row file at header) }) }
         ensures err { OnErr result (self.new ≡ self.old) }
+        ensures turn { IsTurn (told_of D.tells D.reads D.faults self.old) (told_of D.tells D.reads D.faults self.new) }
+        ensures holding { holding D.reads self.new ≡ holding D.reads self.old }
     {
         let due = ready(&self.prepared).checked_add(1).ok_or(NoMemory)?;
         if self.index.reserve(due).is_err() {
@@ -68,46 +69,5 @@ impl<D: Disk> Channel<D> {
         }
         self.index.put(id, opened_at(file, at, header));
         Ok(())
-    }
-
-    /// Drops the log's last entry, which is a store, while the table is empty and nothing is ready. The last part is then the store before
-    /// it, and is confirmed.
-    pub fn drop_last(&mut self) -> Result<(), ChannelFault>
-        requires empty { self.old.rows ≡ finite.empty }
-        requires ready { self.old.prepared ≡ None }
-        requires last { IsStore self.old.files.transactions.inventory.state.entry }
-
-        ensures dropped { OnOk result (last_part self.new ≡ self.old.files.transactions.inventory.state.last_before) }
-        ensures confirmed { OnOk result (self.new.files.confirmed ≡ last_part self.new) }
-        ensures kept { OnErr result (self.new.files.transactions ≡ self.old.files.transactions) }
-        ensures rest { self.new ≡ record self.old {
-          files = self.new.files;
-          ending = ending_after result self.old.ending;
-          failed = failed_after result self.old.failed;
-        } }
-        ensures images { IsTrue D.tells → AgreesWithImages D.reads D.leaves self.old → UnlessFault result (AgreesWithImages D.reads D.leaves self.new) }
-        ensures full { self.old.failed ≡ false → IfSome (full_record self.old.files.transactions.log.length) (λ n. IsErrOf result (ChannelFault.Full n) × (self.new.files ≡ self.old.files)) }
-        ensures not_full { self.old.failed ≡ false → full_record self.old.files.transactions.log.length ≡ None → IfErr result (λ e. e ≡ ChannelFault.Fault) }
-        ensures no_call { self.old.failed ≡ true → IsErrOf result ChannelFault.Fault × (self.new.files ≡ self.old.files) }
-        ensures faults { D.faults self.old.files.disk ≤ D.faults self.new.files.disk }
-        ensures cause { self.old.failed ≡ false → IsErrOf result ChannelFault.Fault → Rose (D.faults self.old.files.disk) (D.faults self.new.files.disk) }
-    {
-        if self.failed {
-            return Err(note(&mut self.ending, &mut self.failed, ChannelFault::Fault));
-        }
-        match self.files.drop_store() {
-            Ok(()) => Ok(()),
-            Err(FilesFault::Full { number }) => Err(note(
-                &mut self.ending,
-                &mut self.failed,
-                ChannelFault::Full { number },
-            )),
-            Err(FilesFault::Fault) => Err(note(
-                &mut self.ending,
-                &mut self.failed,
-                ChannelFault::Fault,
-            )),
-            Err(_) => unreachable!(),
-        }
     }
 }

@@ -76,38 +76,43 @@ impl Part {
     }
 
     /// Gives the records their rows in the index, where their bytes stand from this place on, and answers what those replaced.
-    pub(crate) fn put_rows(self, index: &mut EntityIndex, place: Place) -> Vec<Slot>
+    pub(crate) fn put_rows(
+        self,
+        index: &mut EntityIndex,
+        place: Place,
+        swept_odd: bool,
+    ) -> Vec<Slot>
         requires room { length self ≤ index.old.spare }
         requires low { place.at ≤ 2 ^ 30 }
-        ensures rows { index.new.contents ≡ rows_behind place.file place.at (map header_for self) index.old.contents }
+        ensures rows { index.new.contents ≡ rows_behind swept_odd place.file place.at (map header_for self) index.old.contents }
         ensures slots { result.items ≡ map (slot_for index.old.contents) self }
     {
         let mut slots = self.slots;
-        put_rows(index, &mut slots, place);
+        put_rows(index, &mut slots, place, swept_odd);
         slots
     }
 }
 
 /// Gives each of the headers its row, and keeps the row that it replaced.
-fn put_rows(index: &mut EntityIndex, slots: &mut [Slot], place: Place)
+fn put_rows(index: &mut EntityIndex, slots: &mut [Slot], place: Place, swept_odd: bool)
     requires ordered { rises (map (λ (s : AnySlot). s.header.id) slots.old) ≡ true }
     requires room { length slots.old ≤ index.old.spare }
     requires fits { place.at + sum_by (λ (s : AnySlot). s.header.length) slots.old < 2 ^ 64 }
-    ensures rows { index.new.contents ≡ rows_behind place.file place.at (headers_in slots.old) index.old.contents }
+    ensures rows { index.new.contents ≡ rows_behind swept_odd place.file place.at (headers_in slots.old) index.old.contents }
     ensures slots { slots.new ≡ map (with_before index.old.contents) slots.old }
 {
     let mut at = place.at;
     for slot in slots.iter_mut() {
         let header = slot.header;
         slot.before = index.row(header.id).copied();
-        index.put(header.id, stored_at(place.file, at, header));
+        index.put(header.id, stored_at(swept_odd, place.file, at, header));
         at += header.length;
     }
 }
 
 /// The row of an entity that was just stored, which is pinned.
-fn stored_at(file: u64, at: u64, header: Header) -> Row
-    ensures { result ≡ row_at file at header }
+fn stored_at(swept_odd: bool, file: u64, at: u64, header: Header) -> Row
+    ensures { result ≡ row_at swept_odd file at header }
 {
     Row {
         file,
@@ -117,7 +122,7 @@ fn stored_at(file: u64, at: u64, header: Header) -> Row
             pinned: true,
             marked: false,
             grey: false,
-            left: false,
+            swept_odd,
             next: 0,
         },
     }

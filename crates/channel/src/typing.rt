@@ -1,12 +1,16 @@
 //! A type record is kept.
-ghost use Rattle.std.specs.Prelude.{◌≡◌, ◌≤◌, ◌⊎◌, ◌++◌, [], ◌∷◌, true, false, None, Some, IsTrue, length, take, OnOk, OnErr, IfErr, IfSome, IsErrOf};
+ghost use Rattle.std.specs.Prelude.{◌≡◌, ◌≤◌, ◌⊎◌, ◌++◌, [], ◌∷◌, ℕ, true, false, None, Some, IsTrue, length, take, OnOk, OnErr, IfErr, IfSome, IsErrOf};
 ghost use Rattle.store_io.specs.Disk.{Rose};
 ghost use Rattle.store_io.specs.Whole.{EachImage};
 ghost use Rattle.core_steps.specs.Told.{TriedType};
 ghost use Rattle.channel_files.specs.Heads.{full_record};
-ghost use Rattle.channel.specs.Core.{core_of, types_kept};
+ghost use Rattle.channel_files.specs.Chunks.{content_of};
+ghost use Rattle.channel.specs.Core.{core_of, last_part, log_next_id, told_of, types_kept};
+ghost use Rattle.channel.specs.Turns.{IsTurn};
+ghost use Rattle.channel.specs.Holding.{holding};
+ghost use Rattle.channel.specs.Shown.{EndsAt, disk_held};
 ghost use Rattle.channel.specs.Faults.{UnlessFault, ending_after, failed_after};
-ghost use Rattle.channel.specs.OnDisk.{AgreesWithImages, HoldsChannel, HoldsWith};
+ghost use Rattle.channel.specs.OnDisk.{HoldsChannel, HoldsWith};
 
 use crate::channel::{Attempt, Channel};
 use crate::fault::{ChannelFault, note};
@@ -30,12 +34,17 @@ impl<D: Disk> Channel<D> {
         requires most { length text.now ≤ 1048576 }
 
         ensures kept { IsTrue D.tells → OnOk result (types_kept D.reads self.new ≡ types_kept D.reads self.old ++ text.now ∷ []) }
-        ensures not_kept { IsTrue D.tells → AgreesWithImages D.reads D.leaves self.old → OnErr result (types_kept D.reads self.new ≡ types_kept D.reads self.old) }
+        ensures not_kept { IsTrue D.tells → OnErr result (types_kept D.reads self.new ≡ types_kept D.reads self.old) }
         ensures core { IsTrue D.tells → core_of D.reads self.new ≡ core_of D.reads self.old }
         // Whatever was answered, each image has what the channel stands for, and the record or not.
-        ensures stop { IsTrue D.tells → self.old.failed ≡ false → AgreesWithImages D.reads D.leaves self.old
+        ensures stop { IsTrue D.tells → self.old.failed ≡ false
             → EachImage (D.leaves self.new.files.disk) (λ image. HoldsChannel D.reads self.old image ⊎ HoldsWith D.reads self.old (types_kept D.reads self.old ++ text.now ∷ []) image) }
-        ensures images { IsTrue D.tells → AgreesWithImages D.reads D.leaves self.old → UnlessFault result (AgreesWithImages D.reads D.leaves self.new) }
+        // The chunks that are read stay, and each image ends with what the disk held.
+        ensures content { IsTrue D.tells → content_of (D.reads self.new.files.disk) ≡ content_of (D.reads self.old.files.disk) }
+        ensures ends { IsTrue D.tells → self.old.failed ≡ false
+            → EachImage (D.leaves self.new.files.disk) (EndsAt self.old.channels self.old.number (last_part self.old) (log_next_id self.old) (disk_held D.reads self.old)) }
+        ensures turn { IsTurn (told_of D.tells D.reads D.faults self.old) (told_of D.tells D.reads D.faults self.new) }
+        ensures holding { IsTrue D.tells → holding D.reads self.new ≡ holding D.reads self.old }
         ensures tried { self.old.failed ≡ false → IsErrOf result ChannelFault.Fault → self.new.tried ≡ Some (TriedType text.now) }
         ensures not_tried { UnlessFault result (self.new.tried ≡ self.old.tried) }
         ensures rest { self.new ≡ record self.old {
@@ -50,6 +59,7 @@ impl<D: Disk> Channel<D> {
         ensures no_call { self.old.failed ≡ true → IsErrOf result ChannelFault.Fault × (self.new.files ≡ self.old.files) × (self.new.tried ≡ self.old.tried) }
         ensures faults { D.faults self.old.files.disk ≤ D.faults self.new.files.disk }
         ensures cause { self.old.failed ≡ false → IsErrOf result ChannelFault.Fault → Rose (D.faults self.old.files.disk) (D.faults self.new.files.disk) }
+        ensures calm { OnOk result (D.faults self.new.files.disk ≡ D.faults self.old.files.disk) }
     {
         if self.failed {
             return Err(note(&mut self.ending, &mut self.failed, ChannelFault::Fault));

@@ -37,9 +37,9 @@ as_read_holds t reads image d as_read =
     held_agrees t.log.header (log_of reads) t.inventory.state.files t.inventory.state.last reads image (all_fit (log_of reads) t.inventory.state d.kept.inventory).within as_read.is_log as_read.agrees
 
 -- what is held is shown
-shows_held : (header : List ℕ) (payloads : List (List ℕ)) (s : State) (newest : ℕ) (chunks : List Chunk) (image : ℕ → List ℕ) → inventory_of payloads ≡ Some s → (1 ≤ newest → newest_of s.entry ≡ newest)
-    → IsHeld header payloads s.files chunks image → Shows header s.last s.next_id newest chunks image
-shows_held header payloads s newest chunks image is newest_is held =
+shows_held : (header : List ℕ) (payloads : List (List ℕ)) (s : State) (newest before : ℕ) (chunks : List Chunk) (image : ℕ → List ℕ) → inventory_of payloads ≡ Some s → (1 ≤ newest → newest_of s.entry ≡ newest) → (1 ≤ newest → s.next_id_before ≡ before)
+    → IsHeld header payloads s.files chunks image → Shows header s.last s.next_id newest before chunks image
+shows_held header payloads s newest before chunks image is newest_is before_is held =
     let same = log_payloads header payloads (image 0) held.is_log in
     record {
       state = s;
@@ -48,17 +48,38 @@ shows_held header payloads s newest chunks image is newest_is held =
       last_is = refl;
       next_id_is = refl;
       newest_is = newest_is;
+      before_is = before_is;
       content = ap (λ (ps : List (List ℕ)). chunks_in image ps) same ∙ held.content;
       long = held.long;
     }
 
+-- where nothing is said of the last entry, the next id before it does not matter
+pub no_newest : {header : List ℕ} {last next_id newest before : ℕ} {chunks : List Chunk} {image : ℕ → List ℕ} → Shows header last next_id newest before chunks image → Shows header last next_id 0 0 chunks image
+no_newest s = record {
+  state = s.state;
+  is_log = s.is_log;
+  inventory = s.inventory;
+  last_is = s.last_is;
+  next_id_is = s.next_id_is;
+  newest_is = λ one. absurd (omega (arith, one));
+  before_is = λ one. absurd (omega (arith, one));
+  content = s.content;
+  long = s.long;
+}
+
+-- with the last entry that the inventory has
+pub shows_whole : (t : Transactions) (reads image : ℕ → List ℕ) → IsOfDisk t reads → HoldsRead t reads image
+    → Shows t.log.header t.inventory.state.last t.inventory.state.next_id (newest_of t.inventory.state.entry) t.inventory.state.next_id_before (content_of reads) image
+shows_whole t reads image d held =
+    shows_held t.log.header (log_of reads) t.inventory.state (newest_of t.inventory.state.entry) t.inventory.state.next_id_before (content_of reads) image d.kept.inventory (λ one. refl) (λ one. refl) held
+
 pub shows_read : (t : Transactions) (reads image : ℕ → List ℕ) → IsOfDisk t reads → HoldsRead t reads image
-    → Shows t.log.header t.inventory.state.last t.inventory.state.next_id 0 (content_of reads) image
-shows_read t reads image d held = shows_held t.log.header (log_of reads) t.inventory.state 0 (content_of reads) image d.kept.inventory (λ one. absurd (omega (arith, one))) held
+    → Shows t.log.header t.inventory.state.last t.inventory.state.next_id 0 0 (content_of reads) image
+shows_read t reads image d held = shows_held t.log.header (log_of reads) t.inventory.state 0 0 (content_of reads) image d.kept.inventory (λ one. absurd (omega (arith, one))) (λ one. absurd (omega (arith, one))) held
 
 -- each image shows what is read
 pub each_shows : (t : Transactions) (reads : ℕ → List ℕ) (leaves : ℕ → List ℕ → Bool) → IsOfDisk t reads → EachAsRead t reads leaves
-    → EachImage leaves (Shows t.log.header t.inventory.state.last t.inventory.state.next_id 0 (content_of reads))
+    → EachImage leaves (Shows t.log.header t.inventory.state.last t.inventory.state.next_id 0 0 (content_of reads))
 each_shows t reads leaves d each image left = shows_read t reads image d (as_read_holds t reads image d (each image left))
 
 module _ (t : Transactions) (e : Entry) (r0 r2 : ℕ → List ℕ) (l0 l2 : ℕ → List ℕ → Bool) (d : IsOfDisk t r0) (allow : allowed t.inventory.state e ≡ true)
@@ -88,10 +109,10 @@ module _ (t : Transactions) (e : Entry) (r0 r2 : ℕ → List ℕ) (l0 l2 : ℕ 
     long = agrees.long;
   }
 
-  shows_after : (image : ℕ → List ℕ) → HoldsAfter t r0 e image → Shows t.log.header (last_after t.inventory.state e) (next_id_after t.inventory.state e) (newest_of (Some e)) (content_after r0 e) image
+  shows_after : (image : ℕ → List ℕ) → HoldsAfter t r0 e image → Shows t.log.header (last_after t.inventory.state e) (next_id_after t.inventory.state e) (newest_of (Some e)) t.inventory.state.next_id (content_after r0 e) image
   shows_after image held =
-      shows_held t.log.header (log_of r0 ++ spelling e ∷ []) (after t.inventory.state e) (newest_of (Some e)) (content_after r0 e) image
-      (one_more (log_of r0) (spelling e) t.inventory.state e d.kept.inventory again allow) (λ one. refl) held
+      shows_held t.log.header (log_of r0 ++ spelling e ∷ []) (after t.inventory.state e) (newest_of (Some e)) t.inventory.state.next_id (content_after r0 e) image
+      (one_more (log_of r0) (spelling e) t.inventory.state e d.kept.inventory again allow) (λ one. refl) (λ one. refl) held
 
   before_log : IsImage l0 r0 → (image : ℕ → List ℕ) → IsImage l2 image → (was : ℕ → List ℕ) × IsImage l0 was × StepsIn Any 0 was image
   before_log left image = image_before Any 0 l0 l2 (λ c of_new. (r0 0, left 0, tt)) others.leaves image
@@ -99,15 +120,15 @@ module _ (t : Transactions) (e : Entry) (r0 r2 : ℕ → List ℕ) (l0 l2 : ℕ 
   -- each image has the log of before or with the entry, and below the lengths what was read
   pub stop_after : IsImage l0 r0 → EachAsRead t r0 l0 → EachImage l0 (AgreesBelow (files_after t.inventory.state e) r0)
       → (Each (l0 0) (IsLogOf t.log.header (log_of r0)) → Each (l2 0) (IsBeforeOrAfter t.log.header (log_of r0) (spelling e)))
-      → EachImage l2 (λ image. Shows t.log.header t.inventory.state.last t.inventory.state.next_id 0 (content_of r0) image
-      ⊎ Shows t.log.header (last_after t.inventory.state e) (next_id_after t.inventory.state e) (newest_of (Some e)) (content_after r0 e) image)
+      → EachImage l2 (λ image. Shows t.log.header t.inventory.state.last t.inventory.state.next_id (newest_of t.inventory.state.entry) t.inventory.state.next_id_before (content_of r0) image
+      ⊎ Shows t.log.header (last_after t.inventory.state e) (next_id_after t.inventory.state e) (newest_of (Some e)) t.inventory.state.next_id (content_after r0 e) image)
   stop_after left each more stop image of_new =
       let logs0 : Each (l0 0) (IsLogOf t.log.header (log_of r0)) =
       λ b here. subst (IsLogOf t.log.header (log_of r0)) (there_is r0 0 b) (each (with_file r0 0 b) (image_with l0 r0 0 b left here)).is_log in
       let b = before_log left image of_new in
       elim (stop logs0 (image 0) (of_new 0)) [
         | inl is_log ↦
-            inl (shows_read t r0 image d (held_agrees t.log.header (log_of r0) t.inventory.state.files t.inventory.state.last r0 image fit.within is_log
+            inl (shows_whole t r0 image d (held_agrees t.log.header (log_of r0) t.inventory.state.files t.inventory.state.last r0 image fit.within is_log
             (agrees_but 0 t.inventory.state.files r0 b.0 image empty (each b.0 b.1).agrees b.2)))
         | inr is_log ↦ inr (shows_after image (held_after image is_log (agrees_but 0 (files_after t.inventory.state e) r0 b.0 image empty2 (more b.0 b.1) b.2)))
       ]

@@ -57,7 +57,7 @@ module _ (t : Transactions) (r0 r1 : ℕ → List ℕ) (l0 l1 : ℕ → List ℕ
   pub tables_kept : IsImage l0 r0 → EachAsRead t r0 l0 → EachImage l1 (HasTables t.inventory.state.last (table_of r0))
   tables_kept left each image of_new =
       shown_before r0 image
-      (subst (λ (l : List Chunk). Shows t.log.header t.inventory.state.last t.inventory.state.next_id 0 l image) content_kept (each_shows t r1 l1 of_disk_kept (as_read_kept left each) image of_new))
+      (subst (λ (l : List Chunk). Shows t.log.header t.inventory.state.last t.inventory.state.next_id 0 0 l image) content_kept (each_shows t r1 l1 of_disk_kept (as_read_kept left each) image of_new))
 
 -- on a clean disk each image is as read
 pub clean_as_read : (t : Transactions) (reads : ℕ → List ℕ) (leaves : ℕ → List ℕ → Bool) → IsOfDisk t reads → IsClean reads leaves → EachAsRead t reads leaves

@@ -67,11 +67,11 @@ table_from reads files last more ranges all le id =
     (up_to_all reads files last more ranges all le ∙ sym (up_to_all reads files last last ranges all (omega arith)))
 
 -- the table of an image is that of the chunks that it shows
-pub table_shown : {header : List ℕ} {last next_id newest : ℕ} {chunks : List Chunk} (image : ℕ → List ℕ) → Shows header last next_id newest chunks image
+pub table_shown : {header : List ℕ} {last next_id newest before : ℕ} {chunks : List Chunk} (image : ℕ → List ℕ) → Shows header last next_id newest before chunks image
     → (number id : ℕ) → table_of image number id ≡ table_at number chunks id
 table_shown image shows number id = ap (λ (l : List Chunk). table_at number l id) shows.content
 
-pub shown_before : {header : List ℕ} {last next_id newest : ℕ} (reads image : ℕ → List ℕ) → Shows header last next_id newest (content_of reads) image → HasTables last (table_of reads) image
+pub shown_before : {header : List ℕ} {last next_id newest before : ℕ} (reads image : ℕ → List ℕ) → Shows header last next_id newest before (content_of reads) image → HasTables last (table_of reads) image
 shown_before reads image shows = record { state = shows.state; inventory = shows.inventory; last_is = shows.last_is; same = table_shown image shows }
 
 -- a store's chunk comes last
@@ -92,7 +92,7 @@ module _ (t : Transactions) (r0 : ℕ → List ℕ) (d : IsOfDisk t r0) (c : Chu
       ∙ ap (λ (k : ℕ). table_at k (content_of r0 ++ c ∷ []) id) less
       ∙ table_before t.inventory.state.last (content_of r0) c id (omega (arith, next))
 
-  pub shown_after : {header : List ℕ} {last next_id newest : ℕ} (image : ℕ → List ℕ) → last ≡ c.number → Shows header last next_id newest (content_of r0 ++ c ∷ []) image
+  pub shown_after : {header : List ℕ} {last next_id newest before : ℕ} (image : ℕ → List ℕ) → last ≡ c.number → Shows header last next_id newest before (content_of r0 ++ c ∷ []) image
       → HasStored c.number (table_of r0 t.inventory.state.last) (with_chunk c (table_of r0 t.inventory.state.last)) image
   shown_after image is shows = record {
     now = record { state = shows.state; inventory = shows.inventory; last_is = shows.last_is ∙ is; same = now_read image shows.content };
@@ -101,13 +101,13 @@ module _ (t : Transactions) (r0 : ℕ → List ℕ) (d : IsOfDisk t r0) (c : Chu
 
 -- the last store is dropped
 module _ (t : Transactions) (r0 : ℕ → List ℕ) (d : IsOfDisk t r0) (file at number : ℕ) (last : is_store_at t.inventory.state.entry file at number ≡ true) where
-  dropped : Dropped t.inventory.state (ranges_of (payloads_of (r0 0)))
+  pub dropped : Dropped t.inventory.state (ranges_of (payloads_of (r0 0)))
   dropped = drops t.inventory.state (ranges_of (payloads_of (r0 0))) t.inventory.state.entry file at number last (all_fit (payloads_of (r0 0)) t.inventory.state d.kept.inventory).undone
 
   pub number_dropped : t.inventory.state.last ≡ t.inventory.state.last_before + 1
   number_dropped = dropped.next
 
-  content_split : content_of r0 ≡ map (chunk_at r0) dropped.front ++ chunk_at r0 dropped.last ∷ []
+  pub content_split : content_of r0 ≡ map (chunk_at r0) dropped.front ++ chunk_at r0 dropped.last ∷ []
   content_split = ap (λ (l : List Range). map (chunk_at r0) l) dropped.split ∙ map-append (chunk_at r0) dropped.front (dropped.last ∷ [])
 
   pub content_dropped : content_after r0 (Truncation file at number) ≡ take (length (content_of r0) - 1) (content_of r0)
@@ -127,7 +127,7 @@ module _ (t : Transactions) (r0 : ℕ → List ℕ) (d : IsOfDisk t r0) (file at
       ∙ sym (ap (λ (l : List Chunk). table_at t.inventory.state.last_before l id) content_split
       ∙ table_before t.inventory.state.last_before front newest id (omega (arith, dropped.number, dropped.next)))
 
-  pub shown_dropped : {header : List ℕ} {next_id newest : ℕ} (image : ℕ → List ℕ) → Shows header t.inventory.state.last_before next_id newest (take (length (content_of r0) - 1) (content_of r0)) image
+  pub shown_dropped : {header : List ℕ} {next_id newest before : ℕ} (image : ℕ → List ℕ) → Shows header t.inventory.state.last_before next_id newest before (take (length (content_of r0) - 1) (content_of r0)) image
       → HasTable t.inventory.state.last_before (table_of r0 t.inventory.state.last_before) image
   shown_dropped image shows = record {
     state = shows.state;

@@ -13,7 +13,7 @@ use Rattle.channel_files.specs.Chunks.{content_of}
 use Rattle.channel_files.specs.Table.{Occurrence, table_of, with_chunk, IsSameTable}
 use Rattle.channel_files.specs.Channel.{Channel, IsOfDisk}
 use Rattle.channel_files.specs.Images.{EachAsRead}
-use Rattle.channel_files.specs.Shows.{Shows, HasTables, HasTable, HasStored}
+use Rattle.channel_files.specs.Shows.{Shows, newest_of, HasTables, HasTable, HasStored}
 use Rattle.channel_files.specs.Heads.{with_new_head, with_head, heads_made, place_of, chunk_of, full_record, full_at_first, full_behind_creation}
 use Rattle.channel_files.specs.Stores.{drops_to}
 use Rattle.channel_files.specs.Faults.{IsFaultOrFull, UnlessFault}
@@ -45,8 +45,8 @@ pub record IsStored {D : Type 0} (tells : Bool) (reads : D → ℕ → List ℕ)
       → IfOk result (λ p. EachImage (leaves new.disk) (HasStored number (table_read reads old) (with_chunk (chunk_of number p chunk) (table_read reads old))))
   -- whatever was answered, each image has the chunks of before, or these and the new one
   pub shows : IsTrue tells → AgreesWithImages reads leaves old
-      → EachImage (leaves new.disk) (λ image. Shows old.transactions.log.header old.transactions.inventory.state.last old.transactions.inventory.state.next_id 0 (content_of (reads old.disk)) image
-      ⊎ Shows old.transactions.log.header number next_id number (content_of (reads old.disk) ++ chunk_of number (next_place old (length chunk)) chunk ∷ []) image)
+      → EachImage (leaves new.disk) (λ image. Shows old.transactions.log.header old.transactions.inventory.state.last old.transactions.inventory.state.next_id 0 0 (content_of (reads old.disk)) image
+      ⊎ Shows old.transactions.log.header number next_id number old.transactions.inventory.state.next_id (content_of (reads old.disk) ++ chunk_of number (next_place old (length chunk)) chunk ∷ []) image)
   -- and its table is the old or the new one, its last number with it
   pub tables : IsTrue tells → AgreesWithImages reads leaves old
       → EachImage (leaves new.disk) (λ image. HasTables old.transactions.inventory.state.last (table_of (reads old.disk)) image
@@ -76,8 +76,8 @@ pub record IsDropped {D A : Type 0} (tells : Bool) (reads : D → ℕ → List �
       → OnOk result (EachImage (leaves new.disk) (HasTable old.transactions.inventory.state.last_before (table_of (reads old.disk) old.transactions.inventory.state.last_before)))
   -- whatever was answered, each image has the chunks of before, or these without the last store
   pub shows : IsTrue tells → AgreesWithImages reads leaves old
-      → EachImage (leaves new.disk) (λ image. Shows old.transactions.log.header old.transactions.inventory.state.last old.transactions.inventory.state.next_id 0 (content_of (reads old.disk)) image
-      ⊎ Shows old.transactions.log.header old.transactions.inventory.state.last_before old.transactions.inventory.state.next_id_before 0 (take (length (content_of (reads old.disk)) - 1) (content_of (reads old.disk))) image)
+      → EachImage (leaves new.disk) (λ image. Shows old.transactions.log.header old.transactions.inventory.state.last old.transactions.inventory.state.next_id (newest_of old.transactions.inventory.state.entry) old.transactions.inventory.state.next_id_before (content_of (reads old.disk)) image
+      ⊎ Shows old.transactions.log.header old.transactions.inventory.state.last_before old.transactions.inventory.state.next_id_before 0 0 (take (length (content_of (reads old.disk)) - 1) (content_of (reads old.disk))) image)
   -- and the table with or without it
   pub tables : IsTrue tells → AgreesWithImages reads leaves old
       → EachImage (leaves new.disk) (λ image. HasTables old.transactions.inventory.state.last (table_of (reads old.disk)) image

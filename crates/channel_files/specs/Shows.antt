@@ -18,14 +18,15 @@ newest_of (Some (Deletion file)) = 0
 newest_of None = 0
 
 -- The log is whole and its entries give an inventory with this last store and this next id. The chunks are these, in live files that are long enough.
--- newest is the number of the store that is the last entry; 0 says nothing of the last entry.
-pub record Shows (header : List ℕ) (last next_id newest : ℕ) (chunks : List Chunk) (image : ℕ → List ℕ) : Type 0 where
+-- newest is the number of the store that is the last entry, and before the next id in front of it; newest 0 says nothing of the last entry.
+pub record Shows (header : List ℕ) (last next_id newest before : ℕ) (chunks : List Chunk) (image : ℕ → List ℕ) : Type 0 where
   pub state : State
   pub is_log : IsLogOf header (payloads_of (image 0)) (image 0)
   pub inventory : inventory_of (payloads_of (image 0)) ≡ Some state
   pub last_is : state.last ≡ last
   pub next_id_is : state.next_id ≡ next_id
   pub newest_is : 1 ≤ newest → newest_of state.entry ≡ newest
+  pub before_is : 1 ≤ newest → state.next_id_before ≡ before
   pub content : content_of image ≡ chunks
   pub long : (f : ℕ) → length_in state.files f ≤ length (image f)
 

@@ -42,14 +42,15 @@ pub(crate) fn append_entry<D: Disk>(
         let s = transactions.old.inventory.state in
         IsTrue D.tells → EachAsRead transactions.old (D.reads disk.old) (D.leaves disk.old)
         → EachImage (D.leaves disk.old) (AgreesBelow (files_after s entry.now) (D.reads disk.old))
-        → EachImage (D.leaves disk.new) (λ image. Shows header s.last s.next_id 0 (content_of (D.reads disk.old)) image
-        ⊎ Shows header (last_after s entry.now) (next_id_after s entry.now) (newest_of (Some entry.now)) (content_after (D.reads disk.old) entry.now) image) }
+        → EachImage (D.leaves disk.new) (λ image. Shows header s.last s.next_id (newest_of s.entry) s.next_id_before (content_of (D.reads disk.old)) image
+        ⊎ Shows header (last_after s entry.now) (next_id_after s entry.now) (newest_of (Some entry.now)) s.next_id (content_after (D.reads disk.old) entry.now) image) }
     ensures full { 2 ^ 40 - 64 < transactions.old.log.length → IsErrOf result (AppendFault.Full transactions.old.log.length) × (disk.new ≡ disk.old) }
     ensures not_full { transactions.old.log.length ≤ 2 ^ 40 - 64 → IfErr result (λ e. e ≡ AppendFault.Fault) }
     // File 1 is as it was.
     ensures types { IsTrue D.tells → FileStays 1 (D.reads disk.old) (D.reads disk.new) (D.leaves disk.old) (D.leaves disk.new) }
     ensures faults { D.faults disk.old ≤ D.faults disk.new }
     ensures cause { IsErrOf result AppendFault.Fault → Rose (D.faults disk.old) (D.faults disk.new) }
+    ensures calm { OnOk result (D.faults disk.new ≡ D.faults disk.old) }
     ensures read_calls { D.read_calls disk.new ≡ D.read_calls disk.old }
 {
     transactions.append(disk, entry)?;

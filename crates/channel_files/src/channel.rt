@@ -37,7 +37,7 @@ impl<D> Model for ChannelFiles<D> {
 
 impl<D: Disk> ChannelFiles<D> {
     ghost use Rattle.std.specs.Prelude.{◌≡◌, ◌≢◌, ◌⊎◌, ◌≤◌, ◌<◌, ◌-◌, ◌+◌, ◌^◌, ◌++◌, [], ◌∷◌, true, ℕ, List, IsTrue, IsErr, length, take, drop, OnOk, OnErr, IfOk, IfErr, IfSome, IsErrOf, Some, None};
-    ghost use Rattle.store_io.specs.Disk.{Only, OthersStay, Rose};
+    ghost use Rattle.store_io.specs.Disk.{Only, OthersStay, Rose, raised};
     ghost use Rattle.store_io.specs.Whole.{EachImage, IsClean};
     ghost use Rattle.gated_log.specs.Log.{payloads_of, IsLogOf, IsBeforeOrAfter, Each};
     ghost use Rattle.gated_log.specs.Of.{IsOf};
@@ -53,7 +53,7 @@ impl<D: Disk> ChannelFiles<D> {
     ghost use Rattle.channel_files.specs.Shows.{Shows, HasTables, HasTable, HasStored};
     ghost use Rattle.channel_files.specs.Heads.{with_new_head, with_head, heads_made, place_of, chunk_of, full_record, full_at_first, full_behind_creation};
     ghost use Rattle.channel_files.specs.Stores.{IsStore};
-    ghost use Rattle.channel_files.specs.Faults.{IsFaultOrChanged, UnlessFault};
+    ghost use Rattle.channel_files.specs.Faults.{IsFaultOrChanged, IsFaultOrFull, UnlessFault};
     ghost use Rattle.channel_files.specs.Whole.{HasWholeChunks};
     ghost use Rattle.channel_files.specs.Outcomes.{IsStored, IsDropped, IsAppended, Stays, FileStays};
 
@@ -127,6 +127,12 @@ impl<D: Disk> ChannelFiles<D> {
         // The chunk and the table in what is read and in each image, whatever was answered, and the three cases of `Full`.
         ensures stored { IsStored D.tells D.reads D.leaves self.old self.new number chunk.now next_id result }
         ensures whole_chunks { IsTrue D.tells → HasWholeChunks (D.reads self.old.disk) → UnlessFault result (HasWholeChunks (D.reads self.new.disk)) }
+        ensures header { self.new.transactions.log.header ≡ self.old.transactions.log.header }
+        // The log and the number of its last file do not fall; `Full` behind a new file comes with the log as it is then.
+        ensures grows { self.old.transactions.log.length ≤ self.new.transactions.log.length }
+        ensures created { self.old.transactions.inventory.state.created ≤ self.new.transactions.inventory.state.created }
+        ensures full_log { full_at_first self.old.transactions.inventory.state self.old.transactions.log.length self.old.sizes.maximum number (length chunk.now) ≡ None
+            → IfSome (full_behind_creation self.old.transactions.inventory.state self.old.transactions.log.length self.old.sizes.maximum (length chunk.now)) (λ n. IfErr result (IsFaultOrFull (λ m. self.new.transactions.log.length ≡ n))) }
         // File 1, which has no chunk and no entry, is as it was.
         ensures types { IsTrue D.tells → FileStays 1 (D.reads self.old.disk) (D.reads self.new.disk) (D.leaves self.old.disk) (D.leaves self.new.disk) }
         ensures numbers { OnErr result ((self.new.transactions.inventory.state.last ≡ self.old.transactions.inventory.state.last)
@@ -137,6 +143,7 @@ impl<D: Disk> ChannelFiles<D> {
         ensures unconfirmed { self.new.confirmed ≡ self.old.confirmed }
         ensures faults { D.faults self.old.disk ≤ D.faults self.new.disk }
         ensures cause { IsErrOf result FilesFault.Fault → Rose (D.faults self.old.disk) (D.faults self.new.disk) }
+        ensures calm { OnOk result (D.faults self.new.disk ≡ D.faults self.old.disk) }
         ensures read_calls { D.read_calls self.new.disk ≡ D.read_calls self.old.disk }
     {
         store(
@@ -165,6 +172,7 @@ impl<D: Disk> ChannelFiles<D> {
         // The inventory and the tables with or without that store, and `Full` exactly where the log takes no record.
         ensures dropped { IsDropped D.tells D.reads D.leaves self.old self.new result }
         ensures whole_chunks { IsTrue D.tells → HasWholeChunks (D.reads self.old.disk) → OnOk result (HasWholeChunks (D.reads self.new.disk)) }
+        ensures header { self.new.transactions.log.header ≡ self.old.transactions.log.header }
         // File 1, which has no chunk and no entry, is as it was.
         ensures types { IsTrue D.tells → FileStays 1 (D.reads self.old.disk) (D.reads self.new.disk) (D.leaves self.old.disk) (D.leaves self.new.disk) }
         ensures err { OnErr result (self.new.transactions ≡ self.old.transactions) }
@@ -174,6 +182,7 @@ impl<D: Disk> ChannelFiles<D> {
         ensures sizes { self.new.sizes ≡ self.old.sizes }
         ensures faults { D.faults self.old.disk ≤ D.faults self.new.disk }
         ensures cause { IsErrOf result FilesFault.Fault → Rose (D.faults self.old.disk) (D.faults self.new.disk) }
+        ensures calm { OnOk result (D.faults self.new.disk ≡ D.faults self.old.disk) }
         ensures read_calls { D.read_calls self.new.disk ≡ D.read_calls self.old.disk }
     {
         drop_last(&mut self.disk, &mut self.transactions, &mut self.confirmed)
@@ -208,6 +217,8 @@ impl<D: Disk> ChannelFiles<D> {
         ensures leaves { IsTrue D.tells → D.leaves self.new.disk ≡ D.leaves self.old.disk }
         ensures faults { D.faults self.old.disk ≤ D.faults self.new.disk }
         ensures cause { IsErrOf result FilesFault.Fault → Rose (D.faults self.old.disk) (D.faults self.new.disk) }
+        ensures calm { OnOk result (D.faults self.new.disk ≡ D.faults self.old.disk) }
+        ensures read_calls { D.read_calls self.new.disk ≡ raised (D.read_calls self.old.disk) }
     {
         let _inventory = self.transactions.inventory();
         match data_file::read_entity(&mut self.disk, file as u32, at, header, out) {
@@ -235,6 +246,7 @@ impl<D: Disk> ChannelFiles<D> {
         ensures stays { Stays D.tells D.reads D.leaves self.old self.new }
         ensures faults { D.faults self.old.disk ≤ D.faults self.new.disk }
         ensures cause { IsErrOf result FilesFault.Fault → Rose (D.faults self.old.disk) (D.faults self.new.disk) }
+        ensures calm { OnOk result (D.faults self.new.disk ≡ D.faults self.old.disk) }
         ensures read_calls { D.read_calls self.new.disk ≡ D.read_calls self.old.disk }
     {
         append_record(&mut self.disk, log, text)

@@ -51,14 +51,18 @@ fn store_behind_head<D: Disk>(
     ensures shows { let header = transactions.old.log.header in
         let s = transactions.old.inventory.state in
         IsTrue D.tells → EachAsRead transactions.old (D.reads disk.old) (D.leaves disk.old)
-        → EachImage (D.leaves disk.new) (λ image. Shows header s.last s.next_id 0 (content_of (D.reads disk.old)) image
-        ⊎ Shows header number next_id number (content_of (D.reads disk.old) ++ chunk_of number (head_end s) chunk.now ∷ []) image) }
+        → EachImage (D.leaves disk.new) (λ image. Shows header s.last s.next_id 0 0 (content_of (D.reads disk.old)) image
+        ⊎ Shows header number next_id number s.next_id (content_of (D.reads disk.old) ++ chunk_of number (head_end s) chunk.now ∷ []) image) }
     ensures full { IfSome (full_record transactions.old.log.length) (λ n. IsErrOf result (FilesFault.Full n) × (disk.new ≡ disk.old)) }
     ensures not_full { full_record transactions.old.log.length ≡ None → IfErr result (λ e. e ≡ FilesFault.Fault) }
+    ensures header { transactions.new.log.header ≡ transactions.old.log.header }
+    ensures grows { transactions.old.log.length ≤ transactions.new.log.length }
+    ensures created { transactions.old.inventory.state.created ≤ transactions.new.inventory.state.created }
     // File 1 is as it was.
     ensures types { IsTrue D.tells → FileStays 1 (D.reads disk.old) (D.reads disk.new) (D.leaves disk.old) (D.leaves disk.new) }
     ensures faults { D.faults disk.old ≤ D.faults disk.new }
     ensures cause { IsErrOf result FilesFault.Fault → Rose (D.faults disk.old) (D.faults disk.new) }
+    ensures calm { OnOk result (D.faults disk.new ≡ D.faults disk.old) }
     ensures read_calls { D.read_calls disk.new ≡ D.read_calls disk.old }
 {
     let place = head_end(transactions.inventory());
@@ -97,16 +101,21 @@ fn store_in_new_head<D: Disk>(
     ensures shows { let header = transactions.old.log.header in
         let s = transactions.old.inventory.state in
         IsTrue D.tells → EachAsRead transactions.old (D.reads disk.old) (D.leaves disk.old)
-        → EachImage (D.leaves disk.new) (λ image. Shows header s.last s.next_id 0 (content_of (D.reads disk.old)) image
-        ⊎ Shows header number next_id number (content_of (D.reads disk.old) ++ chunk_of number (head_end (with_new_head s)) chunk.now ∷ []) image) }
+        → EachImage (D.leaves disk.new) (λ image. Shows header s.last s.next_id 0 0 (content_of (D.reads disk.old)) image
+        ⊎ Shows header number next_id number s.next_id (content_of (D.reads disk.old) ++ chunk_of number (head_end (with_new_head s)) chunk.now ∷ []) image) }
     ensures full { IfSome (full_creation transactions.old.inventory.state transactions.old.log.length) (λ n. IsErrOf result (FilesFault.Full n) × ((disk.new ≡ disk.old) × (transactions.new ≡ transactions.old))) }
     ensures full_behind { full_creation transactions.old.inventory.state transactions.old.log.length ≡ None
         → IfSome (full_record (transactions.old.log.length + 14)) (λ n. IsErr result × IfErr result (IsFaultOrFull (λ m. (m ≡ n) × (transactions.new.inventory.state ≡ with_new_head transactions.old.inventory.state)))) }
     ensures not_full { full_creation transactions.old.inventory.state transactions.old.log.length ≡ None → full_record (transactions.old.log.length + 14) ≡ None → IfErr result (λ e. e ≡ FilesFault.Fault) }
+    ensures header { transactions.new.log.header ≡ transactions.old.log.header }
+    ensures grows { transactions.old.log.length ≤ transactions.new.log.length }
+    ensures created { transactions.old.inventory.state.created ≤ transactions.new.inventory.state.created }
+    ensures full_log { full_creation transactions.old.inventory.state transactions.old.log.length ≡ None → IfSome (full_record (transactions.old.log.length + 14)) (λ n. IfErr result (IsFaultOrFull (λ m. transactions.new.log.length ≡ n))) }
     // File 1 is as it was.
     ensures types { IsTrue D.tells → FileStays 1 (D.reads disk.old) (D.reads disk.new) (D.leaves disk.old) (D.leaves disk.new) }
     ensures faults { D.faults disk.old ≤ D.faults disk.new }
     ensures cause { IsErrOf result FilesFault.Fault → Rose (D.faults disk.old) (D.faults disk.new) }
+    ensures calm { OnOk result (D.faults disk.new ≡ D.faults disk.old) }
     ensures read_calls { D.read_calls disk.new ≡ D.read_calls disk.old }
 {
     let _inventory = transactions.inventory();
@@ -148,18 +157,24 @@ pub(crate) fn store<D: Disk>(
         let s = transactions.old.inventory.state in
         let place = place_of (with_head s maximum (length chunk.now)) (length chunk.now) in
         IsTrue D.tells → EachAsRead transactions.old (D.reads disk.old) (D.leaves disk.old)
-        → EachImage (D.leaves disk.new) (λ image. Shows header s.last s.next_id 0 (content_of (D.reads disk.old)) image
-        ⊎ Shows header number next_id number (content_of (D.reads disk.old) ++ chunk_of number place chunk.now ∷ []) image) }
+        → EachImage (D.leaves disk.new) (λ image. Shows header s.last s.next_id 0 0 (content_of (D.reads disk.old)) image
+        ⊎ Shows header number next_id number s.next_id (content_of (D.reads disk.old) ++ chunk_of number place chunk.now ∷ []) image) }
     ensures full { IfSome (full_at_first transactions.old.inventory.state transactions.old.log.length maximum number (length chunk.now)) (λ n. IsErrOf result (FilesFault.Full n) × ((disk.new ≡ disk.old) × (transactions.new ≡ transactions.old))) }
     ensures full_behind { full_at_first transactions.old.inventory.state transactions.old.log.length maximum number (length chunk.now) ≡ None
         → IfSome (full_behind_creation transactions.old.inventory.state transactions.old.log.length maximum (length chunk.now))
         (λ n. IsErr result × IfErr result (IsFaultOrFull (λ m. (m ≡ n) × (transactions.new.inventory.state ≡ with_new_head transactions.old.inventory.state)))) }
     ensures not_full { full_at_first transactions.old.inventory.state transactions.old.log.length maximum number (length chunk.now) ≡ None
         → full_behind_creation transactions.old.inventory.state transactions.old.log.length maximum (length chunk.now) ≡ None → IfErr result (λ e. e ≡ FilesFault.Fault) }
+    ensures header { transactions.new.log.header ≡ transactions.old.log.header }
+    ensures grows { transactions.old.log.length ≤ transactions.new.log.length }
+    ensures created { transactions.old.inventory.state.created ≤ transactions.new.inventory.state.created }
+    ensures full_log { full_at_first transactions.old.inventory.state transactions.old.log.length maximum number (length chunk.now) ≡ None
+        → IfSome (full_behind_creation transactions.old.inventory.state transactions.old.log.length maximum (length chunk.now)) (λ n. IfErr result (IsFaultOrFull (λ m. transactions.new.log.length ≡ n))) }
     // File 1 is as it was.
     ensures types { IsTrue D.tells → FileStays 1 (D.reads disk.old) (D.reads disk.new) (D.leaves disk.old) (D.leaves disk.new) }
     ensures faults { D.faults disk.old ≤ D.faults disk.new }
     ensures cause { IsErrOf result FilesFault.Fault → Rose (D.faults disk.old) (D.faults disk.new) }
+    ensures calm { OnOk result (D.faults disk.new ≡ D.faults disk.old) }
     ensures read_calls { D.read_calls disk.new ≡ D.read_calls disk.old }
 {
     if number > 1 << 63 {

@@ -59,13 +59,15 @@ pub(crate) fn create_head<D: Disk>(
     // Whatever was answered, each image shows the same store and the same chunks.
     ensures shows { let s = transactions.old.inventory.state in
         IsTrue D.tells → EachAsRead transactions.old (D.reads disk.old) (D.leaves disk.old)
-        → EachImage (D.leaves disk.new) (Shows transactions.old.log.header s.last s.next_id 0 (content_of (D.reads disk.old))) }
+        → EachImage (D.leaves disk.new) (Shows transactions.old.log.header s.last s.next_id 0 0 (content_of (D.reads disk.old))) }
     ensures full { IfSome (full_creation transactions.old.inventory.state transactions.old.log.length) (λ n. IsErrOf result (FilesFault.Full n) × (disk.new ≡ disk.old)) }
     ensures not_full { full_creation transactions.old.inventory.state transactions.old.log.length ≡ None → IfErr result (λ e. e ≡ FilesFault.Fault) }
+    ensures header { transactions.new.log.header ≡ transactions.old.log.header }
     // File 1 is as it was.
     ensures types { IsTrue D.tells → FileStays 1 (D.reads disk.old) (D.reads disk.new) (D.leaves disk.old) (D.leaves disk.new) }
     ensures faults { D.faults disk.old ≤ D.faults disk.new }
     ensures cause { IsErrOf result FilesFault.Fault → Rose (D.faults disk.old) (D.faults disk.new) }
+    ensures calm { OnOk result (D.faults disk.new ≡ D.faults disk.old) }
     ensures read_calls { D.read_calls disk.new ≡ D.read_calls disk.old }
 {
     let length = transactions.length();

@@ -32,6 +32,7 @@ pub(crate) fn append_record<D: Disk>(
     ensures not_full { full_record log.old.length ≡ None → IfErr result (λ e. e ≡ FilesFault.Fault) }
     ensures faults { D.faults disk.old ≤ D.faults disk.new }
     ensures cause { IsErrOf result FilesFault.Fault → Rose (D.faults disk.old) (D.faults disk.new) }
+    ensures calm { OnOk result (D.faults disk.new ≡ D.faults disk.old) }
     ensures read_calls { D.read_calls disk.new ≡ D.read_calls disk.old }
 {
     log.append(disk, text)?;

@@ -43,14 +43,16 @@ pub(crate) fn store_nothing<D: Disk>(
     ensures shows { let header = transactions.old.log.header in
         let s = transactions.old.inventory.state in
         IsTrue D.tells → EachAsRead transactions.old (D.reads disk.old) (D.leaves disk.old)
-        → EachImage (D.leaves disk.new) (λ image. Shows header s.last s.next_id 0 (content_of (D.reads disk.old)) image
-        ⊎ Shows header number next_id number (content_of (D.reads disk.old) ++ chunk_of number (record { file = 0; at = 0 }) [] ∷ []) image) }
+        → EachImage (D.leaves disk.new) (λ image. Shows header s.last s.next_id 0 0 (content_of (D.reads disk.old)) image
+        ⊎ Shows header number next_id number s.next_id (content_of (D.reads disk.old) ++ chunk_of number (record { file = 0; at = 0 }) [] ∷ []) image) }
     ensures full { IfSome (full_record transactions.old.log.length) (λ n. IsErrOf result (FilesFault.Full n) × (disk.new ≡ disk.old)) }
     ensures not_full { full_record transactions.old.log.length ≡ None → IfErr result (λ e. e ≡ FilesFault.Fault) }
+    ensures header { transactions.new.log.header ≡ transactions.old.log.header }
     // File 1 is as it was.
     ensures types { IsTrue D.tells → FileStays 1 (D.reads disk.old) (D.reads disk.new) (D.leaves disk.old) (D.leaves disk.new) }
     ensures faults { D.faults disk.old ≤ D.faults disk.new }
     ensures cause { IsErrOf result FilesFault.Fault → Rose (D.faults disk.old) (D.faults disk.new) }
+    ensures calm { OnOk result (D.faults disk.new ≡ D.faults disk.old) }
     ensures read_calls { D.read_calls disk.new ≡ D.read_calls disk.old }
 {
     let nothing = Entry::Store {
@@ -90,14 +92,16 @@ pub(crate) fn store_some<D: Disk>(
     ensures shows { let header = transactions.old.log.header in
         let s = transactions.old.inventory.state in
         IsTrue D.tells → EachAsRead transactions.old (D.reads disk.old) (D.leaves disk.old)
-        → EachImage (D.leaves disk.new) (λ image. Shows header s.last s.next_id 0 (content_of (D.reads disk.old)) image
-        ⊎ Shows header number next_id number (content_of (D.reads disk.old) ++ chunk_of number place chunk.now ∷ []) image) }
+        → EachImage (D.leaves disk.new) (λ image. Shows header s.last s.next_id 0 0 (content_of (D.reads disk.old)) image
+        ⊎ Shows header number next_id number s.next_id (content_of (D.reads disk.old) ++ chunk_of number place chunk.now ∷ []) image) }
     ensures full { IfSome (full_record transactions.old.log.length) (λ n. IsErrOf result (FilesFault.Full n) × (disk.new ≡ disk.old)) }
     ensures not_full { full_record transactions.old.log.length ≡ None → IfErr result (λ e. e ≡ FilesFault.Fault) }
+    ensures header { transactions.new.log.header ≡ transactions.old.log.header }
     // File 1 is as it was.
     ensures types { IsTrue D.tells → FileStays 1 (D.reads disk.old) (D.reads disk.new) (D.leaves disk.old) (D.leaves disk.new) }
     ensures faults { D.faults disk.old ≤ D.faults disk.new }
     ensures cause { IsErrOf result FilesFault.Fault → Rose (D.faults disk.old) (D.faults disk.new) }
+    ensures calm { OnOk result (D.faults disk.new ≡ D.faults disk.old) }
     ensures read_calls { D.read_calls disk.new ≡ D.read_calls disk.old }
 {
     let length = transactions.length();

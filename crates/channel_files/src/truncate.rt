@@ -8,7 +8,7 @@ ghost use Rattle.transactions_file.specs.Inventory.{after, is_store_at};
 ghost use Rattle.channel_files.specs.Chunks.{content_of};
 ghost use Rattle.channel_files.specs.Channel.{IsOfDisk};
 ghost use Rattle.channel_files.specs.Images.{EachAsRead};
-ghost use Rattle.channel_files.specs.Shows.{Shows};
+ghost use Rattle.channel_files.specs.Shows.{newest_of, Shows};
 ghost use Rattle.channel_files.specs.Heads.{full_record};
 ghost use Rattle.channel_files.specs.Stores.{IsStore, drops_to};
 ghost use Rattle.channel_files.specs.Outcomes.{FileStays};
@@ -43,13 +43,15 @@ pub(crate) fn truncate<D: Disk>(
         let s = transactions.old.inventory.state in
         let content = content_of (D.reads disk.old) in
         IsTrue D.tells → EachAsRead transactions.old (D.reads disk.old) (D.leaves disk.old)
-        → EachImage (D.leaves disk.new) (λ image. Shows header s.last s.next_id 0 content image ⊎ Shows header s.last_before s.next_id_before 0 (take (length content - 1) content) image) }
+        → EachImage (D.leaves disk.new) (λ image. Shows header s.last s.next_id (newest_of s.entry) s.next_id_before content image ⊎ Shows header s.last_before s.next_id_before 0 0 (take (length content - 1) content) image) }
     ensures full { IfSome (full_record transactions.old.log.length) (λ n. IsErrOf result (FilesFault.Full n) × (disk.new ≡ disk.old)) }
     ensures not_full { full_record transactions.old.log.length ≡ None → IfErr result (λ e. e ≡ FilesFault.Fault) }
+    ensures header { transactions.new.log.header ≡ transactions.old.log.header }
     // File 1 is as it was.
     ensures types { IsTrue D.tells → FileStays 1 (D.reads disk.old) (D.reads disk.new) (D.leaves disk.old) (D.leaves disk.new) }
     ensures faults { D.faults disk.old ≤ D.faults disk.new }
     ensures cause { IsErrOf result FilesFault.Fault → Rose (D.faults disk.old) (D.faults disk.new) }
+    ensures calm { OnOk result (D.faults disk.new ≡ D.faults disk.old) }
     ensures read_calls { D.read_calls disk.new ≡ D.read_calls disk.old }
 {
     let entry = Entry::Truncation {
@@ -83,13 +85,15 @@ pub(crate) fn drop_last<D: Disk>(
         let s = transactions.old.inventory.state in
         let content = content_of (D.reads disk.old) in
         IsTrue D.tells → EachAsRead transactions.old (D.reads disk.old) (D.leaves disk.old)
-        → EachImage (D.leaves disk.new) (λ image. Shows header s.last s.next_id 0 content image ⊎ Shows header s.last_before s.next_id_before 0 (take (length content - 1) content) image) }
+        → EachImage (D.leaves disk.new) (λ image. Shows header s.last s.next_id (newest_of s.entry) s.next_id_before content image ⊎ Shows header s.last_before s.next_id_before 0 0 (take (length content - 1) content) image) }
     ensures full { IfSome (full_record transactions.old.log.length) (λ n. IsErrOf result (FilesFault.Full n) × (disk.new ≡ disk.old)) }
     ensures not_full { full_record transactions.old.log.length ≡ None → IfErr result (λ e. e ≡ FilesFault.Fault) }
+    ensures header { transactions.new.log.header ≡ transactions.old.log.header }
     // File 1 is as it was.
     ensures types { IsTrue D.tells → FileStays 1 (D.reads disk.old) (D.reads disk.new) (D.leaves disk.old) (D.leaves disk.new) }
     ensures faults { D.faults disk.old ≤ D.faults disk.new }
     ensures cause { IsErrOf result FilesFault.Fault → Rose (D.faults disk.old) (D.faults disk.new) }
+    ensures calm { OnOk result (D.faults disk.new ≡ D.faults disk.old) }
     ensures read_calls { D.read_calls disk.new ≡ D.read_calls disk.old }
 {
     let last = transactions.inventory().last_entry();

@@ -20,6 +20,7 @@ pub fn append_chunk<D: Disk>(
     ensures others { IsTrue D.tells → OthersStay file (D.reads disk.old) (D.reads disk.new) (D.leaves disk.old) (D.leaves disk.new) }
     ensures faults { D.faults disk.old ≤ D.faults disk.new }
     ensures cause { OnErr result (Rose (D.faults disk.old) (D.faults disk.new)) }
+    ensures calm { OnOk result (D.faults disk.new ≡ D.faults disk.old) }
     ensures read_calls { D.read_calls disk.new ≡ D.read_calls disk.old }
 {
     disk.write(file, at, bytes)?;

@@ -1,6 +1,6 @@
 //! An entity is read where it stands.
 ghost use Rattle.std.specs.Prelude.{◌≡◌, ◌≤◌, ◌+◌, IsTrue, length, take, drop, OnOk, OnErr, IsErrOf};
-ghost use Rattle.store_io.specs.Disk.{Rose};
+ghost use Rattle.store_io.specs.Disk.{Rose, raised};
 ghost use Rattle.data_file.specs.Headers.{BeginsWith, IsHeaderAt};
 
 use entity_form::{Header, header_at};
@@ -57,6 +57,8 @@ fn read_front<D: Disk>(
     ensures leaves { IsTrue D.tells → D.leaves disk.new ≡ D.leaves disk.old }
     ensures faults { D.faults disk.old ≤ D.faults disk.new }
     ensures cause { OnErr result (Rose (D.faults disk.old) (D.faults disk.new)) }
+    ensures calm { OnOk result (D.faults disk.new ≡ D.faults disk.old) }
+    ensures read_calls { D.read_calls disk.new ≡ raised (D.read_calls disk.old) }
 {
     disk.read(file, at, &mut out[..size])
 }
@@ -86,6 +88,8 @@ pub fn read_entity<D: Disk>(
     ensures leaves { IsTrue D.tells → D.leaves disk.new ≡ D.leaves disk.old }
     ensures faults { D.faults disk.old ≤ D.faults disk.new }
     ensures cause { IsErrOf result ReadFault.Fault → Rose (D.faults disk.old) (D.faults disk.new) }
+    ensures calm { OnOk result (D.faults disk.new ≡ D.faults disk.old) }
+    ensures read_calls { D.read_calls disk.new ≡ raised (D.read_calls disk.old) }
 {
     read_front(disk, file, at, header.length as usize, out)?;
     if begins_with(out, header) {

@@ -1,6 +1,6 @@
 //! A chunk is walked from header to header, without reading the bodies.
-ghost use Rattle.std.specs.Prelude.{◌≡◌, ◌≤◌, ◌<◌, ◌+◌, ◌^◌, ◌↔◌, ℕ, Ok, None, IsTrue, length, OnErr, IfOk, IfSome, IfNone, IsErrOf};
-ghost use Rattle.store_io.specs.Disk.{Rose};
+ghost use Rattle.std.specs.Prelude.{◌≡◌, ◌≤◌, ◌<◌, ◌+◌, ◌^◌, ◌↔◌, ℕ, Ok, None, IsTrue, length, OnErr, IfOk, IfSome, IfNone, IsErrOf, OnOk};
+ghost use Rattle.store_io.specs.Disk.{Rose, raised};
 ghost use Rattle.data_file.specs.Headers.{IsHeaderAt};
 ghost use Rattle.data_file.specs.Rule.{is_own_id, keeps_rule, IsEntityAt};
 
@@ -90,6 +90,8 @@ fn read_header<D: Disk>(disk: &mut D, walk: &ChunkWalk) -> Result<Header, DiskFa
     ensures leaves { IsTrue D.tells → D.leaves disk.new ≡ D.leaves disk.old }
     ensures faults { D.faults disk.old ≤ D.faults disk.new }
     ensures cause { OnErr result (Rose (D.faults disk.old) (D.faults disk.new)) }
+    ensures calm { OnOk result (D.faults disk.new ≡ D.faults disk.old) }
+    ensures read_calls { D.read_calls disk.new ≡ raised (D.read_calls disk.old) }
 {
     let mut window = [0u8; HEADER];
     disk.read(walk.file as u32, walk.at, &mut window)?;
@@ -121,6 +123,9 @@ pub fn next_header<D: Disk>(disk: &mut D, walk: &mut ChunkWalk) -> Result<Option
     ensures leaves { IsTrue D.tells → D.leaves disk.new ≡ D.leaves disk.old }
     ensures faults { D.faults disk.old ≤ D.faults disk.new }
     ensures cause { IsErrOf result WalkFault.Fault → Rose (D.faults disk.old) (D.faults disk.new) }
+    ensures calm { OnOk result (D.faults disk.new ≡ D.faults disk.old) }
+    // Each header takes one read.
+    ensures read_calls { IfOk result (λ o. IfSome o (λ _. D.read_calls disk.new ≡ raised (D.read_calls disk.old))) }
 {
     if walk.at == walk.end {
         return Ok(None);

@@ -1,18 +1,20 @@
 //! Parts that are stored, confirmed and read, ids that are pinned, and types that are kept.
 
-ghost use Rattle.std.specs.Prelude.{◌≡◌, ◌≤◌, true, [], None, Some, length, IfOk, OnOk};
+ghost use Rattle.std.specs.Prelude.{◌≡◌, ◌≤◌, true, false, [], None, Some, length, IfOk, OnOk};
 ghost use Rattle.std.specs.List.{AllByRecursion, range_with_len};
 ghost use Rattle.std.specs.FinMap as finite;
 ghost use Rattle.graph_model.specs.Graph.{ids};
 ghost use Rattle.graph_model.specs.Ids.{rises};
 ghost use Rattle.graph_model.specs.Stores.{total_size};
 ghost use Rattle.transactions_file.specs.Inventory.{start};
+ghost use Rattle.channel.specs.ChunkRule.{IsOwn};
 ghost use Rattle.channel.specs.Core.{last_part};
+ghost use Rattle.channel.specs.Images.{log_header};
 ghost use Rattle.channel.specs.Parts.{IsStorable};
 
 use crate::silent_disk::SilentDisk;
 use crate::windows::window;
-use channel::{Channel, ChannelFault};
+use channel::{Channel, ChannelFault, Stage, images_follow_what_is_held};
 use channel_files::Sizes;
 use core_hands::{ChannelSet, Hand};
 use core_steps::Ending;
@@ -50,6 +52,7 @@ fn begin_log(
 ) -> Result<GatedLog, LogFault>
     requires window { 1048576 ≤ length window.old }
     ensures file { IfOk result (λ log. log.file ≡ file) }
+    ensures header { IfOk result (λ log. log.header ≡ header) }
 {
     let mut opening = begin(disk, file, header)?;
     match opening.next(disk, window)? {
@@ -66,6 +69,7 @@ fn transactions(
 ) -> Result<TransactionsFile, LogFault>
     requires window { 1048576 ≤ length window.old }
     ensures state { IfOk result (λ transactions. transactions.inventory.state ≡ start) }
+    ensures header { IfOk result (λ transactions. transactions.log.header ≡ log_header 2 0) }
 {
     let log = begin_log(disk, 0, *b"ESC1\x01\0\x02\0", window)?;
     Ok(TransactionsFile::join(log, Inventory::new(alloc)))
@@ -79,11 +83,15 @@ fn channel(
     window: &mut [u8],
 ) -> Result<Channel<SilentDisk>, Fail>
     requires window { 1048576 ≤ length window.old }
+    requires header { transactions.log.header ≡ log_header 2 0 }
     ensures number { IfOk result (λ c. c.number ≡ 0) }
+    ensures channels { IfOk result (λ c. c.channels ≡ 2) }
     ensures rows { IfOk result (λ c. c.rows ≡ finite.empty) }
     ensures state { IfOk result (λ c. c.files.transactions.inventory.state ≡ transactions.inventory.state) }
     ensures confirmed { IfOk result (λ c. c.files.confirmed ≡ transactions.inventory.state.last) }
     ensures prepared { IfOk result (λ c. c.prepared ≡ None) }
+    ensures phase { IfOk result (λ c. c.phase ≡ Stage.Idle 0) }
+    ensures sound { IfOk result (λ c. (c.failed ≡ false) × (c.tried ≡ None)) }
 {
     let types = begin_log(&mut disk, 1, *b"ESD1\x01\0\x01\0", window)?;
     let sizes = Sizes {
@@ -102,8 +110,11 @@ fn open(alloc: Global, mut disk: SilentDisk, window: &mut [u8]) -> Result<Channe
     requires window { 1048576 ≤ length window.old }
     ensures number { IfOk result (λ c. c.number ≡ 0) }
     ensures rows { IfOk result (λ c. c.rows ≡ finite.empty) }
+    ensures channels { IfOk result (λ c. c.channels ≡ 2) }
     ensures state { IfOk result (λ c. c.files.transactions.inventory.state ≡ start) }
     ensures confirmed { IfOk result (λ c. c.files.confirmed ≡ 0) }
+    ensures phase { IfOk result (λ c. c.phase ≡ Stage.Idle 0) }
+    ensures untried { IfOk result (λ c. c.tried ≡ None) }
 {
     let transactions = transactions(alloc, &mut disk, window)?;
     channel(alloc, disk, transactions, window)
@@ -125,6 +136,7 @@ fn one_record(alloc: Global) -> Result<Records, NoMemory>
     ensures ordered { IfOk result (λ records. rises (ids records) ≡ true) }
     ensures storable { IfOk result (λ records. AllByRecursion IsStorable records) }
     ensures most { IfOk result (λ records. total_size records ≤ 16777216) }
+    ensures own { IfOk result (λ records. AllByRecursion (IsOwn 2 0 1025) records) }
     ensures one { IfOk result (λ records. length records ≡ 1) }
 {
     let refs = Vec::from_slice(alloc, &[0])?;
@@ -142,11 +154,15 @@ fn one_record(alloc: Global) -> Result<Records, NoMemory>
 /// Stores that entity as the part of store 1.
 fn store_one(alloc: Global, channel: &mut Channel<SilentDisk>, hand: &mut Hand) -> Result<(), Fail>
     requires number { channel.old.number ≡ 0 }
+    requires channels { channel.old.channels ≡ 2 }
+    requires phase { channel.old.phase ≡ Stage.Idle 0 }
+    requires untried { channel.old.tried ≡ None }
     requires state { channel.old.files.transactions.inventory.state ≡ start }
     requires confirmed { channel.old.files.confirmed ≡ 0 }
     requires credit { hand.old.credit ≡ 1 }
     requires opened { hand.old.opened ≡ Some (record { number = 1; channels = range_with_len 0 2; written = [] }) }
     ensures last { OnOk result (last_part channel.new ≡ 1) }
+    ensures phase { channel.new.phase ≡ Stage.Idle 0 }
 {
     channel.prepare(&one_record(alloc)?)?;
     channel.store_part(hand, 1, 1025)?;
@@ -165,6 +181,9 @@ fn a_part_is_stored_and_read(rt: HostRuntime) -> Result<(), Fail> {
         (1, 1, 0)
     );
     assert!(rt; hand.has_part(0));
+    assert!(rt; channel.has(1024) && !channel.has(1026) && !channel.failed());
+    channel.stands();
+    images_follow_what_is_held::<SilentDisk>();
     hand.see(0, true, 1);
     channel.confirm(&hand, 1);
     assert_eq!(rt; channel.confirmed(), 1);

@@ -7,7 +7,7 @@ const FREE: State = State {
     pinned: false,
     marked: false,
     grey: false,
-    left: false,
+    swept_odd: false,
     next: 0,
 };
 

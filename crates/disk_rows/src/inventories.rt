@@ -59,7 +59,11 @@ fn entries_change_the_inventory(rt: HostRuntime) -> Result<(), Fail> {
     assert_eq!(rt; inventory.files().as_slice(), [(3, 80)].as_slice());
     assert_eq!(rt; inventory.files().length_of(3), Some(80));
     assert_eq!(rt;
-        (inventory.head(), inventory.last_store(), inventory.next_id()),
+        (
+            inventory.head(),
+            inventory.last_store(),
+            inventory.next_id()
+        ),
         (Some(3), 2, 1026)
     );
     assert_eq!(rt; inventory.last_entry(), Some(Entry::Deletion { file: 2 }));

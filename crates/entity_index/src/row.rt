@@ -8,8 +8,8 @@ pub struct State {
     pub pinned: bool,
     pub marked: bool,
     pub grey: bool,
-    /// A sweep has still to visit the id.
-    pub left: bool,
+    /// Whether the cycle whose sweep visited the id last has an odd number. So a sweep begins and ends without a pass over all rows.
+    pub swept_odd: bool,
     /// The id behind this one in the grey queue, 0 for none.
     pub next: u64,
 }

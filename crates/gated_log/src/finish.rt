@@ -36,6 +36,7 @@ impl Opening {
         ensures others { IsTrue D.tells → OthersStay self.file (D.reads disk.old) (D.reads disk.new) (D.leaves disk.old) (D.leaves disk.new) }
         ensures faults { D.faults disk.old ≤ D.faults disk.new }
         ensures cause { OnErr result (Rose (D.faults disk.old) (D.faults disk.new)) }
+        ensures calm { OnOk result (D.faults disk.new ≡ D.faults disk.old) }
         ensures read_calls { D.read_calls disk.new ≡ D.read_calls disk.old }
     {
         let header = self.header;
@@ -66,6 +67,7 @@ fn begin_file<D: Disk>(disk: &mut D, file: u32, header: [u8; 8]) -> Result<Gated
     ensures others { IsTrue D.tells → OthersStay file (D.reads disk.old) (D.reads disk.new) (D.leaves disk.old) (D.leaves disk.new) }
     ensures faults { D.faults disk.old ≤ D.faults disk.new }
     ensures cause { OnErr result (Rose (D.faults disk.old) (D.faults disk.new)) }
+    ensures calm { OnOk result (D.faults disk.new ≡ D.faults disk.old) }
     ensures read_calls { D.read_calls disk.new ≡ D.read_calls disk.old }
 {
     let mut first = [0u8; 9];

@@ -18,6 +18,7 @@ pub fn gate_at<D: Disk>(disk: &mut D, file: u32, at: u64) -> Result<u8, DiskFail
     ensures leaves { IsTrue D.tells → D.leaves disk.new ≡ D.leaves disk.old }
     ensures faults { D.faults disk.old ≤ D.faults disk.new }
     ensures cause { OnErr result (Rose (D.faults disk.old) (D.faults disk.new)) }
+    ensures calm { OnOk result (D.faults disk.new ≡ D.faults disk.old) }
 {
     let mut gate = [0u8; 1];
     disk.read(file, at, &mut gate)?;
@@ -33,6 +34,7 @@ pub fn open_gate<D: Disk>(disk: &mut D, file: u32, at: u64) -> Result<(), DiskFa
     ensures others { IsTrue D.tells → OthersStay file (D.reads disk.old) (D.reads disk.new) (D.leaves disk.old) (D.leaves disk.new) }
     ensures faults { D.faults disk.old ≤ D.faults disk.new }
     ensures cause { OnErr result (Rose (D.faults disk.old) (D.faults disk.new)) }
+    ensures calm { OnOk result (D.faults disk.new ≡ D.faults disk.old) }
     ensures read_calls { D.read_calls disk.new ≡ D.read_calls disk.old }
 {
     disk.write(file, at, &[OPEN])?;

@@ -91,6 +91,7 @@ impl GatedLog {
         ensures full { 2 ^ 40 - 64 < self.old.length → IsErrOf result (AppendFault.Full self.old.length) × (disk.new ≡ disk.old) }
         ensures not_full { self.old.length ≤ 2 ^ 40 - 64 → IfErr result (λ e. e ≡ AppendFault.Fault) }
         ensures cause { IsErrOf result AppendFault.Fault → Rose (D.faults disk.old) (D.faults disk.new) }
+        ensures calm { OnOk result (D.faults disk.new ≡ D.faults disk.old) }
         ensures err { OnErr result (self.new ≡ self.old) }
 
         ensures file { self.new.file ≡ self.old.file }

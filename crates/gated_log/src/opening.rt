@@ -89,6 +89,7 @@ impl Opening {
         ensures cut_no_log { IsTrue D.tells → (at : ℕ) → IsErrOf result (LogFault.Cut at) → IsNoLog self.old.header (D.reads disk.old self.old.file) }
         ensures not_header { IsErrOf result LogFault.Header → ⊥ }
         ensures cause { IsErrOf result LogFault.Fault → Rose (D.faults disk.old) (D.faults disk.new) }
+        ensures calm { OnOk result (D.faults disk.new ≡ D.faults disk.old) }
 
         ensures onward { IfOk result (λ o. IfSome o (λ n. (self.new.at ≡ self.old.at + 5 + n) × (self.new.at < self.new.len))) }
         ensures counted { IfOk result (λ o. IfSome o (λ _. self.new.count ≡ self.old.count + 1)) }

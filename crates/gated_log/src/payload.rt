@@ -1,5 +1,5 @@
 // A payload that is read.
-ghost use Rattle.std.specs.Prelude.{◌≡◌, ◌≤◌, ◌<◌, ◌+◌, ◌-◌, ◌++◌, ℕ, IsTrue, false, length, take, drop, slice_index, IfOk, IfSome, IfNone, OnErr};
+ghost use Rattle.std.specs.Prelude.{◌≡◌, ◌≤◌, ◌<◌, ◌+◌, ◌-◌, ◌++◌, ℕ, IsTrue, false, length, take, drop, slice_index, IfOk, IfSome, IfNone, OnErr, OnOk};
 ghost use Rattle.store_io.specs.Disk.{Rose};
 ghost use Rattle.gated_log.specs.Log.{is_whole, sized};
 
@@ -26,6 +26,7 @@ pub fn payload_at<D: Disk>(
     ensures leaves { IsTrue D.tells → D.leaves disk.new ≡ D.leaves disk.old }
     ensures faults { D.faults disk.old ≤ D.faults disk.new }
     ensures cause { OnErr result (Rose (D.faults disk.old) (D.faults disk.new)) }
+    ensures calm { OnOk result (D.faults disk.new ≡ D.faults disk.old) }
 {
     match size_at(disk, file, at, len)? {
         Some(size) => {

@@ -17,6 +17,7 @@ fn write_record<D: Disk>(disk: &mut D, file: u32, at: u64, payload: &[u8]) -> Re
     ensures others { IsTrue D.tells → OthersStay file (D.reads disk.old) (D.reads disk.new) (D.leaves disk.old) (D.leaves disk.new) }
     ensures faults { D.faults disk.old ≤ D.faults disk.new }
     ensures cause { OnErr result (Rose (D.faults disk.old) (D.faults disk.new)) }
+    ensures calm { OnOk result (D.faults disk.new ≡ D.faults disk.old) }
     ensures read_calls { D.read_calls disk.new ≡ D.read_calls disk.old }
 {
     let mut size = [0u8; 4];
@@ -49,6 +50,7 @@ pub fn add_record<D: Disk>(
     ensures others { IsTrue D.tells → OthersStay file (D.reads disk.old) (D.reads disk.new) (D.leaves disk.old) (D.leaves disk.new) }
     ensures faults { D.faults disk.old ≤ D.faults disk.new }
     ensures cause { OnErr result (Rose (D.faults disk.old) (D.faults disk.new)) }
+    ensures calm { OnOk result (D.faults disk.new ≡ D.faults disk.old) }
     ensures read_calls { D.read_calls disk.new ≡ D.read_calls disk.old }
 {
     write_record(disk, file, end, payload)?;

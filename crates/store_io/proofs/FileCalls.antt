@@ -5,6 +5,7 @@ use Rattle.std.proofs.lemmas.List.{take_all, nil_from_length}
 use Rattle.store_io.specs.Disk.{Torn, CutShort, Follows, Only, Holds, OthersStay}
 use Rattle.store_io.specs.Image.{is_image, opened, opened_from, closed}
 use Rattle.store_io.specs.Files.{place_of, reads_of, leaves_of}
+use Rattle.store_io.specs.Restart.{synced_of}
 use Rattle.store_io.specs.declared.mem_file.MemFile.{MemFile}
 use Rattle.store_io.proofs.Images.{image-length, stop-written, stop-cut, stop-synced}
 use Rattle.store_io.proofs.FilesChanged.{Found, Changed, found, all_same}
@@ -87,3 +88,16 @@ only_empty (x ∷ c) is = absurd (false≢true (and_parts (nat_le 0 (length (x �
 
 pub sync_nothing : (files : List MemFile) (file : ℕ) → reads_of files file ≡ [] → leaves_of files file ≡ is_image 0 [] → Only (reads_of files file) (leaves_of files file)
 sync_nothing files file none absent c left = only_empty c (sym (λ i. absent i c) ∙ left) ∙ sym none
+
+-- what was synced of the files, where the call keeps that of the file
+module _ (files new : List MemFile) (file : ℕ) (m m' : MemFile) (was : Found files file m) (now : Changed files new file m') where
+  pub synced_stays : m'.synced.items ≡ m.synced.items → synced_of new ≡ synced_of files
+  synced_stays same = all_same (synced_of files) (synced_of new) file now.other_synced (now.synced ∙ same ∙ sym was.synced)
+
+  pub synced_now : {T E : Type 0} (result : Result T E) → OnOk result (m'.synced.items ≡ m.bytes.items) → OnOk result (synced_of new file ≡ reads_of files file)
+  synced_now (Ok x) same = now.synced ∙ same ∙ sym was.reads
+  synced_now (Err e) same = tt
+
+  pub synced_not : {T E : Type 0} (result : Result T E) → OnErr result (m'.synced.items ≡ m.synced.items) → OnErr result (synced_of new ≡ synced_of files)
+  synced_not (Ok x) same = tt
+  synced_not (Err e) same = synced_stays same

@@ -5,6 +5,7 @@ use Rattle.std.proofs.lemmas.List.{drop_more, drop_all}
 use lib.ListN.{set}
 use Rattle.store_io.specs.Image.{is_image}
 use Rattle.store_io.specs.Files.{place_of, reads_of, leaves_of}
+use Rattle.store_io.specs.Restart.{synced_of}
 use Rattle.store_io.specs.declared.mem_file.MemFile.{MemFile}
 
 -- the file at its place
@@ -12,12 +13,14 @@ pub record Found (files : List MemFile) (file : ℕ) (m : MemFile) : Type 0 wher
   pub number : m.number ≡ file
   pub reads : reads_of files file ≡ m.bytes.items
   pub leaves : leaves_of files file ≡ is_image m.least m.kept.items
+  pub synced : synced_of files file ≡ m.synced.items
 
 found_here : (m : MemFile) (files : List MemFile) (file : ℕ) → (m.number == file) ≡ true → Found (m ∷ files) file m
 found_here m files file here = record {
   number = eqb-true m.number file here;
   reads = cond-true (m.number == file) m.bytes.items (reads_of files file) here;
   leaves = λ i image. cond-true (m.number == file) (is_image m.least m.kept.items image) (leaves_of files file image) here i;
+  synced = cond-true (m.number == file) m.synced.items (synced_of files file) here;
 }
 
 place_here : (m : MemFile) (files : List MemFile) (file : ℕ) → (m.number == file) ≡ true → place_of (m ∷ files) file ≡ 0
@@ -32,6 +35,9 @@ reads_later m files file other = cond-false (m.number == file) m.bytes.items (re
 leaves_later : (m : MemFile) (files : List MemFile) (file : ℕ) → (m.number == file) ≡ false → leaves_of (m ∷ files) file ≡ leaves_of files file
 leaves_later m files file other = λ i image. cond-false (m.number == file) (is_image m.least m.kept.items image) (leaves_of files file image) other i
 
+synced_later : (m : MemFile) (files : List MemFile) (file : ℕ) → (m.number == file) ≡ false → synced_of (m ∷ files) file ≡ synced_of files file
+synced_later m files file other = cond-false (m.number == file) m.synced.items (synced_of files file) other
+
 pub found : (files : List MemFile) (file place : ℕ) (d : MemFile) → place ≡ place_of files file → place < length files → Found files file (get_or files place d)
 found [] file place d is within = absurd (omega arith)
 found (m ∷ files) file zero d is within = elim (cases_Bool (m.number == file)) [
@@ -43,7 +49,12 @@ found (m ∷ files) file (suc place) d is within = elim (cases_Bool (m.number ==
   | inr other ↦
       let next : suc place ≡ 1 + place_of files file = is ∙ place_later m files file other in
       let rest = found files file place d (omega arith) (omega arith) in
-      record { number = rest.number; reads = reads_later m files file other ∙ rest.reads; leaves = leaves_later m files file other ∙ rest.leaves }
+      record {
+        number = rest.number;
+        reads = reads_later m files file other ∙ rest.reads;
+        leaves = leaves_later m files file other ∙ rest.leaves;
+        synced = synced_later m files file other ∙ rest.synced;
+      }
 ]
 
 -- one file is changed, and the others are as they were
@@ -52,6 +63,8 @@ pub record Changed (files new : List MemFile) (file : ℕ) (m : MemFile) : Type 
   pub leaves : leaves_of new file ≡ is_image m.least m.kept.items
   pub other_reads : (f : ℕ) → f ≢ file → reads_of new f ≡ reads_of files f
   pub other_leaves : (f : ℕ) → f ≢ file → leaves_of new f ≡ leaves_of files f
+  pub synced : synced_of new file ≡ m.synced.items
+  pub other_synced : (f : ℕ) → f ≢ file → synced_of new f ≡ synced_of files f
 
 not_it : (a b : ℕ) → a ≢ b → (a == b) ≡ false
 not_it a b ne = elim (cases_Bool (a == b)) [ inl is ↦ absurd (ne (eqb-true a b is)) | inr other ↦ other ]
@@ -66,6 +79,9 @@ changed_here m m' files file was is =
           reads_later m' files f (not_it m'.number f (λ e. ne (sym e ∙ is))) ∙ sym (reads_later m files f (not_it m.number f (λ e. ne (sym e ∙ was))));
       other_leaves = λ f ne.
           leaves_later m' files f (not_it m'.number f (λ e. ne (sym e ∙ is))) ∙ sym (leaves_later m files f (not_it m.number f (λ e. ne (sym e ∙ was))));
+      synced = here.synced;
+      other_synced = λ f ne.
+          synced_later m' files f (not_it m'.number f (λ e. ne (sym e ∙ is))) ∙ sym (synced_later m files f (not_it m.number f (λ e. ne (sym e ∙ was))));
     }
 
 changed_later : (m : MemFile) (files new : List MemFile) (file : ℕ) (m' : MemFile) → (m.number == file) ≡ false → Changed files new file m' → Changed (m ∷ files) (m ∷ new) file m'
@@ -74,6 +90,8 @@ changed_later m files new file m' other rest = record {
   leaves = leaves_later m new file other ∙ rest.leaves;
   other_reads = λ f ne. ap (λ (l : List ℕ). if m.number == f then m.bytes.items else l) (rest.other_reads f ne);
   other_leaves = λ f ne. λ i image. if m.number == f then is_image m.least m.kept.items image else rest.other_leaves f ne i image;
+  synced = synced_later m new file other ∙ rest.synced;
+  other_synced = λ f ne. ap (λ (l : List ℕ). if m.number == f then m.synced.items else l) (rest.other_synced f ne);
 }
 
 pub changed : (files : List MemFile) (file place : ℕ) (m' : MemFile) → place ≡ place_of files file → place < length files → m'.number ≡ file → Changed files (set files place m') file m'
@@ -104,6 +122,13 @@ absent_leaves (m ∷ files) file is = elim (cases_Bool (m.number == file)) [
   | inr other ↦ let next : place_of (m ∷ files) file ≡ 1 + place_of files file = place_later m files file other in leaves_later m files file other ∙ absent_leaves files file (omega arith)
 ]
 
+pub absent_synced : (files : List MemFile) (file : ℕ) → place_of files file ≡ length files → synced_of files file ≡ []
+absent_synced [] file is = refl
+absent_synced (m ∷ files) file is = elim (cases_Bool (m.number == file)) [
+  | inl here ↦ let first : place_of (m ∷ files) file ≡ 0 = place_here m files file here in absurd (omega arith)
+  | inr other ↦ let next : place_of (m ∷ files) file ≡ 1 + place_of files file = place_later m files file other in synced_later m files file other ∙ absent_synced files file (omega arith)
+]
+
 either : (here : Bool) (x : List ℕ) → x ≡ [] → (if here then x else []) ≡ []
 either true x is = is
 either false x is = refl
@@ -115,6 +140,10 @@ either_test false p q same = refl
 pub push_reads : (files : List MemFile) (m : MemFile) → m.bytes.items ≡ [] → reads_of (files ++ m ∷ []) ≡ reads_of files
 push_reads [] m none = λ i f. either (m.number == f) m.bytes.items none i
 push_reads (x ∷ files) m none = λ i f. if x.number == f then x.bytes.items else push_reads files m none i f
+
+pub push_synced : (files : List MemFile) (m : MemFile) → m.synced.items ≡ [] → synced_of (files ++ m ∷ []) ≡ synced_of files
+push_synced [] m none = λ i f. either (m.number == f) m.synced.items none i
+push_synced (x ∷ files) m none = λ i f. if x.number == f then x.synced.items else push_synced files m none i f
 
 pub push_leaves : (files : List MemFile) (m : MemFile) → m.kept.items ≡ [] → m.least ≡ 0 → leaves_of (files ++ m ∷ []) ≡ leaves_of files
 push_leaves [] m none least = λ i f image. either_test (m.number == f) (is_image m.least m.kept.items) (is_image 0 []) (λ j. is_image (least j) (none j)) i image

@@ -5,7 +5,7 @@ use Rattle.std.proofs.lemmas.List.{length-map}
 use Rattle.store_io.specs.Disk.{Only}
 use Rattle.store_io.specs.Image.{fits, is_image}
 use Rattle.store_io.specs.Files.{reads_of, leaves_of}
-use Rattle.store_io.specs.Restart.{picked, picked_of, IsRestart, AllRestart}
+use Rattle.store_io.specs.Restart.{picked, picked_of, synced_of, IsRestart, AllRestart}
 use Rattle.store_io.specs.declared.pick.Pick.{Pick}
 use Rattle.store_io.specs.declared.pick.Pick.TheVariants.{Synced, Written, Filled}
 use Rattle.store_io.specs.declared.mem_file.MemFile.{MemFile}
@@ -43,6 +43,13 @@ restart_reads pick [] [] all = refl
 restart_reads pick [] (n ∷ new) all = absurd all
 restart_reads pick (m ∷ files) [] all = absurd all
 restart_reads pick (m ∷ files) (n ∷ new) all = λ i file. if all.0.number i == file then all.0.bytes i else restart_reads pick files new all.1 i file
+
+-- and what was synced of them
+pub restart_synced : (pick : Pick) (files new : List MemFile) → AllRestart pick files new → synced_of new ≡ reads_of new
+restart_synced pick [] [] all = refl
+restart_synced pick [] (n ∷ new) all = absurd all
+restart_synced pick (m ∷ files) [] all = absurd all
+restart_synced pick (m ∷ files) (n ∷ new) all = λ i file. if n.number == file then all.0.synced i else restart_synced pick files new all.1 i file
 
 one_clean : (here : Bool) (n : MemFile) (rest : List ℕ) (leaves : List ℕ → Bool) → Only n.bytes.items (is_image n.least n.kept.items) → Only rest leaves
     → Only (if here then n.bytes.items else rest) (λ image. if here then is_image n.least n.kept.items image else leaves image)

@@ -1,10 +1,6 @@
 -- Which calls of a source, sink or disk in memory fail.
-use Rattle.std.specs.Prelude.{ℕ, ◌+◌, ◌-◌, ◌^◌, ◌==◌, min, nat_lt, Bool, false, List, Option, Some, None}
+use Rattle.std.specs.Prelude.{ℕ, ◌+◌, ◌==◌, nat_lt, Bool, false, List, Option, Some, None}
 use Rattle.std.specs.List.{list_any}
-
--- a count that rose by one, or stands at its greatest
-abbrev pub raised : ℕ → ℕ
-raised count = min (count + 1) (2 ^ 64 - 1)
 
 -- the list names this call
 abbrev pub is_listed : List ℕ → ℕ → Bool

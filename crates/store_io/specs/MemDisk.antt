@@ -1,7 +1,8 @@
 -- A disk in memory, as contracts see it.
 use Rattle.std.specs.Prelude.{◌≡◌, ℕ, Bool, ◌||◌, List, Option}
 use Rattle.store_io.specs.Files.{reads_of, leaves_of}
-use Rattle.store_io.specs.Failing.{raised, is_listed, is_stopped, is_past}
+use Rattle.store_io.specs.Disk.{raised}
+use Rattle.store_io.specs.Failing.{is_listed, is_stopped, is_past}
 use Rattle.store_io.specs.declared.mem_file.MemFile.{MemFile}
 
 pub record DiskState : Type 0 where

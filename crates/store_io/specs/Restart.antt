@@ -19,10 +19,18 @@ picked_of pick (m ∷ files) file = if m.number == file then picked pick m else 
 abbrev pub disk_picked : Pick → DiskState → ℕ → List ℕ
 disk_picked pick disk = picked_of pick disk.files
 
+-- what the last sync kept of each file
+abbrev pub synced_of : List MemFile → ℕ → List ℕ
+synced_of = picked_of Synced
+
+abbrev pub disk_synced : DiskState → ℕ → List ℕ
+disk_synced disk = synced_of disk.files
+
 -- the file after the restart
 pub record IsRestart (pick : Pick) (old new : MemFile) : Type 0 where
   pub number : new.number ≡ old.number
   pub bytes : new.bytes.items ≡ picked pick old
+  pub synced : new.synced.items ≡ new.bytes.items
   pub kept : new.kept.items ≡ closed new.bytes.items
   pub least : new.least ≡ length new.bytes.items
 

@@ -2,6 +2,7 @@
 ghost use Rattle.std.specs.Prelude.{◌≡◌, ◌≢◌, ◌≤◌, ◌↔◌, false, List, ℕ, IsTrue, length, take};
 ghost use Rattle.store_io.specs.Disk.{Holds, Torn, CutShort, Follows, Only, OthersStay};
 ghost use Rattle.store_io.specs.Files.{reads_of, leaves_of};
+ghost use Rattle.store_io.specs.Restart.{synced_of};
 
 use crate::files::{cut_in, sync_in, write_in};
 use crate::mem_file::MemFile;
@@ -33,6 +34,7 @@ pub fn write_by(
     ensures written { IsTrue result → Holds (reads_of files.old.items file) at bytes.now (reads_of files.new.items file) }
     ensures stop { Follows (Torn at (length bytes.now)) (leaves_of files.old.items file) (leaves_of files.new.items file) }
     ensures others { OthersStay file (reads_of files.old.items) (reads_of files.new.items) (leaves_of files.old.items) (leaves_of files.new.items) }
+    ensures synced { synced_of files.new.items ≡ synced_of files.old.items }
 {
     match outcome {
         Outcome::Done => write_in(alloc, files, file, at, bytes).is_ok(),
@@ -53,6 +55,7 @@ pub fn cut_by(outcome: Outcome, files: &mut Vec<MemFile>, file: u32, len: usize)
     ensures cut { IsTrue result → reads_of files.new.items file ≡ take len (reads_of files.old.items file) }
     ensures stop { Follows (CutShort len) (leaves_of files.old.items file) (leaves_of files.new.items file) }
     ensures others { OthersStay file (reads_of files.old.items) (reads_of files.new.items) (leaves_of files.old.items) (leaves_of files.new.items) }
+    ensures synced { synced_of files.new.items ≡ synced_of files.old.items }
 {
     match outcome {
         Outcome::Done => {
@@ -75,6 +78,9 @@ pub fn sync_by(outcome: Outcome, alloc: Global, files: &mut Vec<MemFile>, file: 
     ensures reads { reads_of files.new.items ≡ reads_of files.old.items }
     ensures stop { (c : List ℕ) → IsTrue (leaves_of files.new.items file c) → IsTrue (leaves_of files.old.items file c) }
     ensures others { OthersStay file (reads_of files.old.items) (reads_of files.new.items) (leaves_of files.old.items) (leaves_of files.new.items) }
+    ensures synced { IsTrue result → synced_of files.new.items file ≡ reads_of files.old.items file }
+    ensures not_synced { result ≡ false → synced_of files.new.items ≡ synced_of files.old.items }
+    ensures others_synced { (f : ℕ) → f ≢ file → synced_of files.new.items f ≡ synced_of files.old.items f }
 {
     match outcome {
         Outcome::Done => sync_in(alloc, files, file).is_ok(),

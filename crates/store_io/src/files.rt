@@ -1,7 +1,8 @@
 // The files of a disk in memory.
-ghost use Rattle.std.specs.Prelude.{◌≡◌, ◌≤◌, ◌<◌, ◌+◌, List, ℕ, IsTrue, length, take, drop, IfSome, IfNone, OnOk, OnErr, IfOk};
+ghost use Rattle.std.specs.Prelude.{◌≡◌, ◌≢◌, ◌≤◌, ◌<◌, ◌+◌, List, ℕ, IsTrue, length, take, drop, IfSome, IfNone, OnOk, OnErr, IfOk};
 ghost use Rattle.store_io.specs.Disk.{Holds, Torn, CutShort, Follows, Only, OthersStay};
 ghost use Rattle.store_io.specs.Files.{place_of, reads_of, leaves_of};
+ghost use Rattle.store_io.specs.Restart.{synced_of};
 
 use crate::mem_file::MemFile;
 use std::alloc::{AllocError, Global};
@@ -24,6 +25,7 @@ pub fn find_or_make(alloc: Global, files: &mut Vec<MemFile>, file: u32) -> Resul
     ensures place { IfOk result (λ place. (place ≡ place_of files.new.items file) × (place < length files.new.items)) }
     ensures reads { reads_of files.new.items ≡ reads_of files.old.items }
     ensures leaves { leaves_of files.new.items ≡ leaves_of files.old.items }
+    ensures synced { synced_of files.new.items ≡ synced_of files.old.items }
 {
     match find(files, file) {
         Some(place) => Ok(place),
@@ -71,6 +73,7 @@ pub fn write_in(
     ensures written { OnOk result (Holds (reads_of files.old.items file) at bytes.now (reads_of files.new.items file)) }
     ensures stop { Follows (Torn at (length bytes.now)) (leaves_of files.old.items file) (leaves_of files.new.items file) }
     ensures others { OthersStay file (reads_of files.old.items) (reads_of files.new.items) (leaves_of files.old.items) (leaves_of files.new.items) }
+    ensures synced { synced_of files.new.items ≡ synced_of files.old.items }
 {
     let place = find_or_make(alloc, files, file)?;
     files[place].write(alloc, at, bytes)
@@ -81,6 +84,7 @@ pub fn cut_in(files: &mut Vec<MemFile>, file: u32, len: usize)
     ensures cut { reads_of files.new.items file ≡ take len (reads_of files.old.items file) }
     ensures stop { Follows (CutShort len) (leaves_of files.old.items file) (leaves_of files.new.items file) }
     ensures others { OthersStay file (reads_of files.old.items) (reads_of files.new.items) (leaves_of files.old.items) (leaves_of files.new.items) }
+    ensures synced { synced_of files.new.items ≡ synced_of files.old.items }
 {
     match find(files, file) {
         Some(place) => files[place].cut(len),
@@ -94,6 +98,9 @@ pub fn sync_in(alloc: Global, files: &mut Vec<MemFile>, file: u32) -> Result<(),
     ensures reads { reads_of files.new.items ≡ reads_of files.old.items }
     ensures stop { (c : List ℕ) → IsTrue (leaves_of files.new.items file c) → IsTrue (leaves_of files.old.items file c) }
     ensures others { OthersStay file (reads_of files.old.items) (reads_of files.new.items) (leaves_of files.old.items) (leaves_of files.new.items) }
+    ensures synced { OnOk result (synced_of files.new.items file ≡ reads_of files.old.items file) }
+    ensures not_synced { OnErr result (synced_of files.new.items ≡ synced_of files.old.items) }
+    ensures others_synced { (f : ℕ) → f ≢ file → synced_of files.new.items f ≡ synced_of files.old.items f }
 {
     match find(files, file) {
         Some(place) => files[place].sync(alloc),

@@ -59,7 +59,7 @@ impl MemDisk {
     ghost use Rattle.std.specs.Prelude.{[], ℕ, IsTrue, IfOk};
     ghost use Rattle.store_io.specs.Whole.{IsImage, IsClean};
     ghost use Rattle.store_io.specs.MemDisk.{disk_reads, disk_leaves};
-    ghost use Rattle.store_io.specs.Restart.{disk_picked};
+    ghost use Rattle.store_io.specs.Restart.{disk_picked, disk_synced};
 
     /// A disk with no files.
     pub fn new(alloc: Global, fails: Vec<u64>, stop_after: Option<u64>) -> MemDisk
@@ -93,6 +93,7 @@ impl MemDisk {
         ensures reads { IfOk result (λ disk. disk_reads disk ≡ disk_picked pick self) }
         ensures image { IfOk result (λ disk. IsImage (disk_leaves self) (disk_reads disk)) }
         ensures clean { IfOk result (λ disk. IsClean (disk_reads disk) (disk_leaves disk)) }
+        ensures synced { IfOk result (λ disk. disk_synced disk ≡ disk_reads disk) }
         ensures calls { IfOk result (λ disk. (disk.fails ≡ fails.items) × (disk.stop_after ≡ stop_after)) }
         ensures counts { IfOk result (λ disk. (disk.calls ≡ 0) × (disk.faults ≡ 0) × (disk.read_calls ≡ 0)) }
     {
@@ -111,10 +112,10 @@ impl MemDisk {
 
 impl Disk for MemDisk {
     ghost use Rattle.std.specs.Prelude.{◌≤◌, ◌↔◌, true, false, ℕ, List, IsTrue, length, take, drop, IsErr, IfOk, OnOk, OnErr};
-    ghost use Rattle.store_io.specs.Disk.{Holds, Torn, CutShort, Follows, Only, OthersStay, Rose};
-    ghost use Rattle.store_io.specs.Failing.{raised};
+    ghost use Rattle.store_io.specs.Disk.{Holds, Torn, CutShort, Follows, Only, OthersStay, Rose, raised};
     ghost use Rattle.store_io.specs.Files.{reads_left_of};
     ghost use Rattle.store_io.specs.MemDisk.{disk_reads, disk_leaves, is_due, is_dead, IsCounted};
+    ghost use Rattle.store_io.specs.Restart.{disk_synced};
 
     ghost tells = { true };
 
@@ -134,6 +135,7 @@ impl Disk for MemDisk {
         ensures leaves { disk_leaves self.new ≡ disk_leaves self.old }
         ensures faults { self.old.faults ≤ self.new.faults }
         ensures cause { OnErr result (Rose self.old.faults self.new.faults) }
+        ensures calm { OnOk result (self.new.faults ≡ self.old.faults) }
         ensures read_calls { self.new.read_calls ≡ self.old.read_calls }
 
         ensures fails { IsErr result ↔ IsTrue (is_due self.old) }
@@ -155,6 +157,8 @@ impl Disk for MemDisk {
         ensures leaves { disk_leaves self.new ≡ disk_leaves self.old }
         ensures faults { self.old.faults ≤ self.new.faults }
         ensures cause { OnErr result (Rose self.old.faults self.new.faults) }
+        ensures calm { OnOk result (self.new.faults ≡ self.old.faults) }
+        ensures read_calls { self.new.read_calls ≡ raised self.old.read_calls }
 
         ensures fails { IsErr result ↔ IsTrue (is_due self.old) }
         ensures ok { OnOk result (self.new ≡ record self.old { calls = raised self.old.calls; read_calls = raised self.old.read_calls }) }
@@ -177,13 +181,14 @@ impl Disk for MemDisk {
         ensures others { OthersStay file (disk_reads self.old) (disk_reads self.new) (disk_leaves self.old) (disk_leaves self.new) }
         ensures faults { self.old.faults ≤ self.new.faults }
         ensures cause { OnErr result (Rose self.old.faults self.new.faults) }
+        ensures calm { OnOk result (self.new.faults ≡ self.old.faults) }
         ensures read_calls { self.new.read_calls ≡ self.old.read_calls }
 
         ensures fails { IsTrue (is_due self.old) → IsErr result }
         ensures counted { IsCounted self.old self.new }
-        ensures ok { OnOk result (self.new.faults ≡ self.old.faults) }
         ensures err { OnErr result (self.new.faults ≡ raised self.old.faults) }
         ensures dead { is_dead self.old ≡ true → self.new.files ≡ self.old.files }
+        ensures synced { disk_synced self.new ≡ disk_synced self.old }
     {
         self.calls = raised(self.calls);
         let outcome = outcome_of(&self.fails, self.stop_after, self.calls);
@@ -208,14 +213,15 @@ impl Disk for MemDisk {
         ensures others { OthersStay file (disk_reads self.old) (disk_reads self.new) (disk_leaves self.old) (disk_leaves self.new) }
         ensures faults { self.old.faults ≤ self.new.faults }
         ensures cause { OnErr result (Rose self.old.faults self.new.faults) }
+        ensures calm { OnOk result (self.new.faults ≡ self.old.faults) }
         ensures read_calls { self.new.read_calls ≡ self.old.read_calls }
 
         ensures fails { IsErr result ↔ IsTrue (is_due self.old) }
         ensures counted { IsCounted self.old self.new }
-        ensures ok { OnOk result (self.new.faults ≡ self.old.faults) }
         ensures err { OnErr result (self.new.faults ≡ raised self.old.faults) }
         ensures made { is_dead self.old ≡ false → disk_reads self.new file ≡ take len (disk_reads self.old file) }
         ensures dead { is_dead self.old ≡ true → self.new.files ≡ self.old.files }
+        ensures synced { disk_synced self.new ≡ disk_synced self.old }
     {
         self.calls = raised(self.calls);
         let outcome = outcome_of(&self.fails, self.stop_after, self.calls);
@@ -233,13 +239,17 @@ impl Disk for MemDisk {
         ensures others { OthersStay file (disk_reads self.old) (disk_reads self.new) (disk_leaves self.old) (disk_leaves self.new) }
         ensures faults { self.old.faults ≤ self.new.faults }
         ensures cause { OnErr result (Rose self.old.faults self.new.faults) }
+        ensures calm { OnOk result (self.new.faults ≡ self.old.faults) }
         ensures read_calls { self.new.read_calls ≡ self.old.read_calls }
 
         ensures fails { IsTrue (is_due self.old) → IsErr result }
         ensures counted { IsCounted self.old self.new }
-        ensures ok { OnOk result (self.new.faults ≡ self.old.faults) }
         ensures err { OnErr result (self.new.faults ≡ raised self.old.faults) }
         ensures unsynced { OnErr result (disk_leaves self.new ≡ disk_leaves self.old) }
+        // What was synced of the file is what it reads; a failed sync, and one of another file, keeps what was synced.
+        ensures synced { OnOk result (disk_synced self.new file ≡ disk_reads self.old file) }
+        ensures not_synced { OnErr result (disk_synced self.new ≡ disk_synced self.old) }
+        ensures others_synced { (f : ℕ) → f ≢ file → disk_synced self.new f ≡ disk_synced self.old f }
     {
         self.calls = raised(self.calls);
         let outcome = outcome_of(&self.fails, self.stop_after, self.calls);

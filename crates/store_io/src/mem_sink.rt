@@ -1,7 +1,7 @@
 // A sink in memory, some of whose calls fail.
 ghost use Rattle.std.specs.Prelude.{◌≡◌, ◌≤◌, ◌++◌, [], ℕ, length, take, IsTrue, IsErr, OnOk, OnErr};
-ghost use Rattle.store_io.specs.Disk.{Rose};
-ghost use Rattle.store_io.specs.Failing.{raised, is_listed};
+ghost use Rattle.store_io.specs.Disk.{Rose, raised};
+ghost use Rattle.store_io.specs.Failing.{is_listed};
 
 use crate::sink::{Sink, SinkFailed};
 use std::alloc::Global;

@@ -1,7 +1,7 @@
 // A source in memory, some of whose calls fail.
 ghost use Rattle.std.specs.Prelude.{◌≡◌, ◌<◌, ◌≤◌, ◌+◌, ◌++◌, ◌↔◌, [], length, take, drop, min, IsTrue, IfOk, IsErr, OnErr};
-ghost use Rattle.store_io.specs.Disk.{Rose};
-ghost use Rattle.store_io.specs.Failing.{raised, is_listed};
+ghost use Rattle.store_io.specs.Disk.{Rose, raised};
+ghost use Rattle.store_io.specs.Failing.{is_listed};
 
 use crate::source::{Source, SourceFailed};
 use std::marker::Model;

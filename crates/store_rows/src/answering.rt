@@ -5,7 +5,7 @@ ghost use Rattle.store_rows.specs.Ready.{Follows, IsReady};
 
 use crate::mem_storage::{Halt, MemStorage};
 use graph_model::Bytes;
-use session::{Given, Session, Turn};
+use session::{Given, Session, SessionStep};
 
 /// More steps than any line here takes.
 const MOST_STEPS: u32 = 100;
@@ -24,20 +24,20 @@ fn open(storage: &MemStorage) -> Result<Session, Halt>
 
 /// Does what the session wants; what it is given then, or none where the line is answered.
 fn carry_on(
-    turn: Turn,
+    turn: SessionStep,
     storage: &mut MemStorage,
     printed: &mut Vec<u8>,
 ) -> Result<Option<Given>, Halt>
     ensures { IfOk result (Follows turn) }
 {
     match turn {
-        Turn::Ask(ask) => Ok(Some(Given::Reply(storage.reply(ask)?))),
-        Turn::Print(line) => {
+        SessionStep::Ask(ask) => Ok(Some(Given::Reply(storage.reply(ask)?))),
+        SessionStep::Print(line) => {
             printed.extend_from_slice(line.as_slice())?;
             Ok(Some(Given::Printed))
         }
-        Turn::Done => Ok(None),
-        Turn::Broken { id } => Err(Halt::Broken { id }),
+        SessionStep::Done => Ok(None),
+        SessionStep::Broken { id } => Err(Halt::Broken { id }),
     }
 }
 

@@ -67,10 +67,7 @@ fn an_entity_that_has_not_its_types_form(rt: HostRuntime) -> Result<(), Fail> {
     ] {
         for rows in [&FOLLOWED, &EXPORTED] {
             let mut storage = storage_with(rt.alloc(), type_id, refs, plain)?;
-            assert_eq!(rt;
-                asked(&mut storage, rows),
-                Err(Halt::Broken { id: 1025 })
-            );
+            assert_eq!(rt; asked(&mut storage, rows), Err(Halt::Broken { id: 1025 }));
         }
     }
     Ok(())

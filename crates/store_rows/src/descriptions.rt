@@ -5,7 +5,10 @@ use type_desc::{Bytes8, DescFault, Text, TypeDesc, read_desc, write_desc};
 fn records_are_read_and_written(rt: HostRuntime) -> Result<(), Fail> {
     let text = b"100 B_2c{bytes b,lazy l_9,refs rs,text t,ref r}";
     let (id, desc) = read_desc(rt.alloc(), text)?;
-    assert_eq!(rt; (id, desc.name.as_str(), desc.members.len()), (100, "B_2c", 5));
+    assert_eq!(rt;
+        (id, desc.name.as_str(), desc.members.len()),
+        (100, "B_2c", 5)
+    );
     let written = write_desc(rt.alloc(), id, &desc)?;
     assert_eq!(rt; written.as_slice(), text.as_slice());
     let fault = read_desc(rt.alloc(), b"16 T{ints x}").err();

@@ -25,7 +25,11 @@ fn declared(alloc: Global, types: &Dictionary, record: &str) -> Result<(u64, boo
 /// `Point` with one member, with two, and with one again.
 fn points(alloc: Global) -> Result<Dictionary, RecordFault> {
     let mut types = Dictionary::new(alloc);
-    for record in ["16 Point{int x}", "17 Point{int x,int y}", "18 Point{int x}"] {
+    for record in [
+        "16 Point{int x}",
+        "17 Point{int x,int y}",
+        "18 Point{int x}",
+    ] {
         types.add_record(record.as_bytes())?;
     }
     Ok(types)

@@ -42,7 +42,10 @@ fn a_header_is_read(rt: HostRuntime) {
     };
     assert_eq!(rt; header_at(&POINT, 0), Some(header));
     assert_eq!(rt; header_at(&POINT, 25), None);
-    assert_eq!(rt; (ref_at(&POINT, 0, 1), ref_at(&POINT, 0, 3)), (Some(5), None));
+    assert_eq!(rt;
+        (ref_at(&POINT, 0, 1), ref_at(&POINT, 0, 3)),
+        (Some(5), None)
+    );
     let cut = read_entity(rt.alloc(), &POINT[..55]).err();
     assert_eq!(rt; cut, Some(FormFault::Bad));
 }
@@ -64,7 +67,10 @@ fn defaults_are_a_line(rt: HostRuntime) -> Result<(), Fail> {
 #[test]
 fn a_bad_form_is_told(rt: HostRuntime) -> Result<(), Fail> {
     let (_, desc) = read_desc(rt.alloc(), b"16 T{int n,text t}")?;
-    let plain = Vec::from_slice(rt.alloc(), &[5, 0, 0, 0, 0, 0, 0, 0, 2, 0, 0, 0, 0xc3, 0x28])?;
+    let plain = Vec::from_slice(
+        rt.alloc(),
+        &[5, 0, 0, 0, 0, 0, 0, 0, 2, 0, 0, 0, 0xc3, 0x28],
+    )?;
     let entity = Entity {
         type_id: 16,
         refs: Ids::new(Vec::new(rt.alloc())),

@@ -1,6 +1,6 @@
 //! An export by itself.
 
-use session::{Export, ExportStep};
+use session_lines::{Export, ExportStep};
 use std::test::Fail;
 use type_dictionary::Dictionary;
 

@@ -116,7 +116,6 @@ fn loads_two_objects_of_an_old_type(rt: HostRuntime) -> Result<(), Fail> {
     Ok(())
 }
 
-
 #[test]
 fn an_entity_without_its_form_is_broken(rt: HostRuntime) -> Result<(), Fail> {
     let alloc = rt.alloc();

@@ -88,6 +88,7 @@ impl TransactionsFile {
         ensures not_full { self.old.log.length ≤ 2 ^ 40 - 64 → IfErr result (λ e. e ≡ AppendFault.Fault) }
         ensures err { OnErr result (self.new ≡ self.old) }
         ensures cause { IsErrOf result AppendFault.Fault → Rose (D.faults disk.old) (D.faults disk.new) }
+        ensures calm { OnOk result (D.faults disk.new ≡ D.faults disk.old) }
         ensures faults { D.faults disk.old ≤ D.faults disk.new }
         ensures read_calls { D.read_calls disk.new ≡ D.read_calls disk.old }
     {

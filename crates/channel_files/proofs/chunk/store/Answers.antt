@@ -35,7 +35,7 @@ returns-in_err-store_nothing-clause-shows g c told each image left =
     elim (c.store_nothing.ensures.shows told each image left) [
       | inl old ↦ inl old
       | inr new ↦
-          inr (subst (λ (bytes : List ℕ). Shows t.log.header c.args.number c.args.next_id c.args.number (content ++ chunk_of c.args.number (place_of (with_head s c.args.maximum (length bytes)) (length bytes)) bytes ∷ []) image)
+          inr (subst (λ (bytes : List ℕ). Shows t.log.header c.args.number c.args.next_id c.args.number s.next_id (content ++ chunk_of c.args.number (place_of (with_head s c.args.maximum (length bytes)) (length bytes)) bytes ∷ []) image)
           (sym (nothing c.args.chunk.now none)) new)
     ]
 
@@ -48,7 +48,7 @@ returns-then-is_empty-clause-shows g c told each image left =
     elim (c.store_nothing.ensures.shows told each image left) [
       | inl old ↦ inl old
       | inr new ↦
-          inr (subst (λ (bytes : List ℕ). Shows t.log.header c.args.number c.args.next_id c.args.number (content ++ chunk_of c.args.number (place_of (with_head s c.args.maximum (length bytes)) (length bytes)) bytes ∷ []) image)
+          inr (subst (λ (bytes : List ℕ). Shows t.log.header c.args.number c.args.next_id c.args.number s.next_id (content ++ chunk_of c.args.number (place_of (with_head s c.args.maximum (length bytes)) (length bytes)) bytes ∷ []) image)
           (sym (nothing c.args.chunk.now none)) new)
     ]
 

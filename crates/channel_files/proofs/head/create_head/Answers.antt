@@ -3,7 +3,7 @@ use Rattle.store_io.specs.Whole.{EachImage}
 use Rattle.transactions_file.specs.Inventory.{State}
 use Rattle.transactions_file.proofs.Lengths.{length_push}
 use Rattle.channel_files.specs.Images.{AgreesBelow}
-use Rattle.channel_files.proofs.Appended.{each_shows}
+use Rattle.channel_files.proofs.Appended.{each_shows, no_newest}
 use Rattle.channel_files.proofs.Changes.{agrees_less}
 use Rattle.channel_files.proofs.LiveFiles.{live_created}
 use Rattle.channel_files.proofs.head.create_head.Goals as goal
@@ -25,7 +25,7 @@ returns-in_err-append_entry-clause-shows g c told each image left =
     let file = c.last_created-file.result + 1 in
     let more : EachImage (g.D.Disk.leaves c.args.disk.now) (AgreesBelow (files ++ (file, 0) ∷ []) (g.D.Disk.reads c.args.disk.now)) =
     λ image left. agrees_less files (files ++ (file, 0) ∷ []) (g.D.Disk.reads c.args.disk.now) image (λ f. omega (arith, length_push files file f)) (each image left).agrees in
-    elim (c.append_entry.ensures.shows told each more image left) [ inl s ↦ s | inr s ↦ s ]
+    elim (c.append_entry.ensures.shows told each more image left) [ inl s ↦ no_newest s | inr s ↦ no_newest s ]
 
 pub returns-clause-shows : goal.returns-clause-shows
 returns-clause-shows g c told each image left =
@@ -33,7 +33,7 @@ returns-clause-shows g c told each image left =
     let file = c.last_created-file.result + 1 in
     let more : EachImage (g.D.Disk.leaves c.args.disk.now) (AgreesBelow (files ++ (file, 0) ∷ []) (g.D.Disk.reads c.args.disk.now)) =
     λ image left. agrees_less files (files ++ (file, 0) ∷ []) (g.D.Disk.reads c.args.disk.now) image (λ f. omega (arith, length_push files file f)) (each image left).agrees in
-    elim (c.append_entry.ensures.shows told each more image left) [ inl s ↦ s | inr s ↦ s ]
+    elim (c.append_entry.ensures.shows told each more image left) [ inl s ↦ no_newest s | inr s ↦ no_newest s ]
 
 pub returns-clause-as_read : goal.returns-clause-as_read
 returns-clause-as_read g c told each =

@@ -5,6 +5,7 @@ use Rattle.transactions_file.specs.Inventory.{State}
 use Rattle.channel_files.specs.Chunks.{Range, ranges_of, content_of}
 use Rattle.channel_files.specs.Shows.{Shows}
 use Rattle.channel_files.specs.Images.{AgreesBelow}
+use Rattle.channel_files.proofs.Appended.{no_newest}
 use Rattle.channel_files.proofs.Changes.{one_chunk}
 use Rattle.channel_files.proofs.Within.{all_fit, zero_set}
 use Rattle.channel_files.proofs.LiveFiles.{live_resized}
@@ -28,8 +29,8 @@ returns-in_err-append_entry-clause-shows g c told each image left =
     let r : Range = record { number = c.args.number; file = 0; at = 0; length = 0 } in
     let one = one_chunk (g.D.Disk.reads c.args.disk.now) (ranges_of (payloads_of (g.D.Disk.reads c.args.disk.now 0))) r [] (content_of (g.D.Disk.reads c.args.disk.now)) refl refl in
     elim (c.append_entry.ensures.shows told each more image left) [
-      | inl s ↦ inl s
-      | inr s ↦ inr (subst (λ chunks. Shows t.log.header c.args.number c.args.next_id c.args.number chunks image) one s)
+      | inl s ↦ inl (no_newest s)
+      | inr s ↦ inr (subst (λ chunks. Shows t.log.header c.args.number c.args.next_id c.args.number t.inventory.state.next_id chunks image) one s)
     ]
 
 pub returns-clause-shows : goal.returns-clause-shows
@@ -42,8 +43,8 @@ returns-clause-shows g c told each image left =
     let r : Range = record { number = c.args.number; file = 0; at = 0; length = 0 } in
     let one = one_chunk (g.D.Disk.reads c.args.disk.now) (ranges_of (payloads_of (g.D.Disk.reads c.args.disk.now 0))) r [] (content_of (g.D.Disk.reads c.args.disk.now)) refl refl in
     elim (c.append_entry.ensures.shows told each more image left) [
-      | inl s ↦ inl s
-      | inr s ↦ inr (subst (λ chunks. Shows t.log.header c.args.number c.args.next_id c.args.number chunks image) one s)
+      | inl s ↦ inl (no_newest s)
+      | inr s ↦ inr (subst (λ chunks. Shows t.log.header c.args.number c.args.next_id c.args.number t.inventory.state.next_id chunks image) one s)
     ]
 
 pub returns-clause-as_read : goal.returns-clause-as_read

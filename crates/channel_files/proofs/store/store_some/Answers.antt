@@ -3,6 +3,7 @@ use Rattle.gated_log.specs.Log.{payloads_of}
 use Rattle.transactions_file.specs.Inventory.{State}
 use Rattle.channel_files.specs.Chunks.{Range, ranges_of, content_of}
 use Rattle.channel_files.specs.Shows.{Shows}
+use Rattle.channel_files.proofs.Appended.{no_newest}
 use Rattle.channel_files.proofs.Within.{store_behind, two_up}
 use Rattle.channel_files.proofs.Written.{reaches, stands}
 use Rattle.channel_files.proofs.Appended.{each_shows, shows_read, as_read_holds}
@@ -64,8 +65,8 @@ returns-in_err-append_entry-clause-shows g c told each image left =
     let each1 = c.in_ok-write_behind.ensures.as_read told each in
     let more = agrees_set s.files c.args.place.file (c.args.place.at + length c.args.chunk.now) here.live r1 reach (g.D.Disk.leaves c.write_behind.new.disk) (c.in_ok-write_behind.ensures.durable told) (λ image left. (each1 image left).agrees) in
     elim (c.append_entry.ensures.shows told each1 more image left) [
-      | inl s ↦ inl (subst (λ chunks. Shows t.log.header t.inventory.state.last t.inventory.state.next_id 0 chunks image) (c.in_ok-write_behind.ensures.content told) s)
-      | inr s ↦ inr (subst (λ chunks. Shows t.log.header c.args.number c.args.next_id c.args.number chunks image) one s)
+      | inl s ↦ inl (subst (λ chunks. Shows t.log.header t.inventory.state.last t.inventory.state.next_id 0 0 chunks image) (c.in_ok-write_behind.ensures.content told) (no_newest s))
+      | inr s ↦ inr (subst (λ chunks. Shows t.log.header c.args.number c.args.next_id c.args.number t.inventory.state.next_id chunks image) one s)
     ]
 
 pub returns-clause-shows : goal.returns-clause-shows
@@ -84,8 +85,8 @@ returns-clause-shows g c told each image left =
     let each1 = c.in_ok-write_behind.ensures.as_read told each in
     let more = agrees_set s.files c.args.place.file (c.args.place.at + length c.args.chunk.now) here.live r1 reach (g.D.Disk.leaves c.write_behind.new.disk) (c.in_ok-write_behind.ensures.durable told) (λ image left. (each1 image left).agrees) in
     elim (c.append_entry.ensures.shows told each1 more image left) [
-      | inl s ↦ inl (subst (λ chunks. Shows t.log.header t.inventory.state.last t.inventory.state.next_id 0 chunks image) (c.in_ok-write_behind.ensures.content told) s)
-      | inr s ↦ inr (subst (λ chunks. Shows t.log.header c.args.number c.args.next_id c.args.number chunks image) one s)
+      | inl s ↦ inl (subst (λ chunks. Shows t.log.header t.inventory.state.last t.inventory.state.next_id 0 0 chunks image) (c.in_ok-write_behind.ensures.content told) (no_newest s))
+      | inr s ↦ inr (subst (λ chunks. Shows t.log.header c.args.number c.args.next_id c.args.number t.inventory.state.next_id chunks image) one s)
     ]
 
 pub returns-clause-content : goal.returns-clause-content

@@ -6,6 +6,7 @@ use Rattle.transactions_file.specs.Inventory.{State}
 use Rattle.channel_files.specs.Chunks.{ranges_of}
 use Rattle.channel_files.specs.Images.{AgreesBelow}
 use Rattle.channel_files.specs.Shows.{Shows}
+use Rattle.channel_files.proofs.Appended.{no_newest}
 use Rattle.channel_files.proofs.Within.{all_fit, undo_less}
 use Rattle.channel_files.proofs.Changes.{agrees_less}
 use Rattle.channel_files.proofs.Tables.{content_dropped}
@@ -33,7 +34,7 @@ returns-in_err-append_entry-clause-shows g c told each image left =
     let more : EachImage (g.D.Disk.leaves c.args.disk.now) (AgreesBelow (set_length s.files c.args.file c.args.at) r0) = λ image left. agrees_less s.files (set_length s.files c.args.file c.args.at) r0 image less (each image left).agrees in
     elim (c.append_entry.ensures.shows told each more image left) [
       | inl old ↦ inl old
-      | inr new ↦ inr (subst (λ chunks. Shows t.log.header s.last_before s.next_id_before 0 chunks image) (content_dropped t r0 d c.args.file c.args.at c.args.number c.requires.last) new)
+      | inr new ↦ inr (subst (λ chunks. Shows t.log.header s.last_before s.next_id_before 0 0 chunks image) (content_dropped t r0 d c.args.file c.args.at c.args.number c.requires.last) (no_newest new))
     ]
 
 pub returns-clause-shows : goal.returns-clause-shows
@@ -47,7 +48,7 @@ returns-clause-shows g c told each image left =
     let more : EachImage (g.D.Disk.leaves c.args.disk.now) (AgreesBelow (set_length s.files c.args.file c.args.at) r0) = λ image left. agrees_less s.files (set_length s.files c.args.file c.args.at) r0 image less (each image left).agrees in
     elim (c.append_entry.ensures.shows told each more image left) [
       | inl old ↦ inl old
-      | inr new ↦ inr (subst (λ chunks. Shows t.log.header s.last_before s.next_id_before 0 chunks image) (content_dropped t r0 d c.args.file c.args.at c.args.number c.requires.last) new)
+      | inr new ↦ inr (subst (λ chunks. Shows t.log.header s.last_before s.next_id_before 0 0 chunks image) (content_dropped t r0 d c.args.file c.args.at c.args.number c.requires.last) (no_newest new))
     ]
 
 pub returns-clause-content : goal.returns-clause-content

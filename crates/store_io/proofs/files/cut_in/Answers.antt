@@ -3,7 +3,7 @@ use Rattle.std.proofs.Common.{◌≡◌, ◌<◌, length, take, ap, ◌∙◌, s
 use lib.ListN.{set}
 use Rattle.store_io.specs.Files.{place_of}
 use Rattle.store_io.proofs.FilesChanged.{changed, absent_reads}
-use Rattle.store_io.proofs.FileCalls.{found_at, cut_stop, cut_nothing}
+use Rattle.store_io.proofs.FileCalls.{found_at, cut_stop, cut_nothing, synced_stays}
 use Rattle.store_io.proofs.files.cut_in.Goals as goal
 
 pub cut-requires : goal.cut-requires
@@ -46,3 +46,13 @@ returns-in-Some-clause-others c =
 
 pub returns-in-None-clause-cut : goal.returns-in-None-clause-cut
 returns-in-None-clause-cut c = cut_nothing c.args.len _ c.requires (absent_reads c.args.files.now.items c.args.file (subst (λ l. place_of l c.args.file ≡ length l) c.deref.ensures.value c.in-None.ensures.none))
+
+pub returns-in-Some-clause-synced : goal.returns-in-Some-clause-synced
+returns-in-Some-clause-synced c =
+    let files = c.args.files.now.items in
+    let at = c.in-Some.ensures.some in
+    let place = subst (λ l. c.in-Some.place ≡ place_of l c.args.file) c.deref.ensures.value at.0 in
+    let within : c.in-Some.place < length files = omega (arith, at.1, ap length c.deref.ensures.value) in
+    let m = found_at files c.args.file c.in-Some.place c.index_mut.result.now place within c.index_mut.ensures.value in
+    let m' = changed files c.args.file c.in-Some.place c.cut.new.self place within (c.cut.ensures.number ∙ m.number) in
+    synced_stays files (set files c.in-Some.place c.cut.new.self) c.args.file c.index_mut.result.now c.cut.new.self m m' c.cut.ensures.synced

@@ -2,7 +2,8 @@
 use Rattle.std.proofs.Common.{◌≡◌, ◌++◌, ◌∷◌, [], length, ap, ◌∙◌, subst, arith, rules}
 use Rattle.std.proofs.lemmas.List.{length_push}
 use Rattle.store_io.specs.Files.{place_of, reads_of, leaves_of}
-use Rattle.store_io.proofs.FilesChanged.{push_reads, push_leaves, push_place}
+use Rattle.store_io.specs.Restart.{synced_of}
+use Rattle.store_io.proofs.FilesChanged.{push_reads, push_leaves, push_place, push_synced}
 use Rattle.store_io.proofs.files.find_or_make.Goals as goal
 
 pub returns-in_ok-push-in-None-clause-place : goal.returns-in_ok-push-in-None-clause-place
@@ -27,3 +28,9 @@ returns-in_ok-push-in-None-clause-leaves c =
     let files = c.args.files.now.items in
     let more : c.push.new.self.items ≡ files ++ c.new.result ∷ [] = search rules in
     ap leaves_of more ∙ push_leaves files c.new.result c.new.ensures.kept c.new.ensures.least
+
+pub returns-in_ok-push-in-None-clause-synced : goal.returns-in_ok-push-in-None-clause-synced
+returns-in_ok-push-in-None-clause-synced c =
+    let files = c.args.files.now.items in
+    let more : c.push.new.self.items ≡ files ++ c.new.result ∷ [] = search rules in
+    ap synced_of more ∙ push_synced files c.new.result c.new.ensures.synced

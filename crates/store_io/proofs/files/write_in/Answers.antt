@@ -3,7 +3,7 @@ use Rattle.std.proofs.Common.{◌≡◌, ◌≤◌, length, ap, ◌∙◌, sym, 
 use lib.ListN.{set}
 use Rattle.store_io.specs.Files.{reads_of}
 use Rattle.store_io.proofs.FilesChanged.{changed}
-use Rattle.store_io.proofs.FileCalls.{found_at, torn_same, write_stop_of, written_after}
+use Rattle.store_io.proofs.FileCalls.{found_at, synced_stays, torn_same, write_stop_of, written_after}
 use Rattle.store_io.proofs.files.write_in.Goals as goal
 
 pub returns-in_err-place-clause-stop : goal.returns-in_err-place-clause-stop
@@ -49,3 +49,11 @@ returns-clause-others c =
       reads = λ f ne. m'.other_reads f ne ∙ (λ i. c.find_or_make.ensures.reads i f);
       leaves = λ f ne. m'.other_leaves f ne ∙ (λ i. c.find_or_make.ensures.leaves i f);
     }
+
+pub returns-clause-synced : goal.returns-clause-synced
+returns-clause-synced c =
+    let at = c.in_ok-place.ensures.place in
+    let files = c.find_or_make.new.files.items in
+    let m = found_at files c.args.file c.in_ok-place.place c.index_mut.result.now at.0 at.1 c.index_mut.ensures.value in
+    let m' = changed files c.args.file c.in_ok-place.place c.write.new.self at.0 at.1 (c.write.ensures.number ∙ m.number) in
+    synced_stays files (set files c.in_ok-place.place c.write.new.self) c.args.file c.index_mut.result.now c.write.new.self m m' c.write.ensures.synced ∙ c.find_or_make.ensures.synced

@@ -1,24 +1,38 @@
 -- The row says where the entity stands, and its bytes there are the spelling of the table's.
-use Rattle.std.proofs.Common.{◌≡◌, Err, false, sym, ap, ◌∙◌, arith}
+use Rattle.std.proofs.Common.{◌≡◌, Err, false, Option, sym, ap, ◌∙◌, arith}
 use Rattle.std.proofs.lemmas.Bool.{false≢true}
 use Rattle.field_bytes.proofs.Laws.{IsBytes}
 use Rattle.channel.proofs.OnDisks.{row_within, row_header_there}
 use Rattle.channel.proofs.Sounds.{SameFiles, sound_read, room_called, sound_refused, room_refused}
-use Rattle.channel.proofs.Lookups.{told_gone, told_other, ok_is_not, fault_is_not, changed_is_not, entity_read}
+use Rattle.channel.proofs.Lookups.{lists_row, told_gone, told_other, ok_is_not, fault_is_not, changed_is_not, entity_read, spelled_as_read}
+use Rattle.channel.proofs.Left.{left_read, left_refused}
+use Rattle.std.specs.Prelude.{is_some}
+use Rattle.entity_index.specs.declared.row.Row.{Row}
+use Rattle.channel.proofs.Turns.{silent, turn_gone}
+use Rattle.channel_files.specs.Chunks.{content_of}
+use Rattle.channel.specs.Holding.{holding_in}
 use Rattle.channel.proofs.channel.Channel.lookup.Goals as goal
 
 -- ---- the channel still holds what it held
 
 pub invariant_of-self : goal.invariant_of-self
 invariant_of-self g c =
-    let still = λ (e : c.note.new.failed ≡ false). sym c.note.ensures.failed ∙ e in
-    (sound_refused _ _ _ c.note.new.ending c.note.new.failed c.self.invariant.0 still, room_refused _ c.note.new.ending c.note.new.failed _ c.self.invariant.1 still, c.self.invariant.2)
+    let still = λ (e : c.note.new.failed ≡ false). sym c.note.ensures.failed ∙ e in (
+      sound_refused _ _ _ c.note.new.ending c.note.new.failed c.self.invariant.0 still,
+      room_refused _ c.note.new.ending c.note.new.failed _ c.self.invariant.1 still,
+      c.self.invariant.2,
+      left_refused _ _ _ _ c.note.new.ending c.note.new.failed c.self.invariant.0 c.self.invariant.3 still,
+    )
 
 pub invariant_of-self-then-self : goal.invariant_of-self-then-self
 invariant_of-self-then-self g c =
     let new = c.note-then-self.new in
-    let still = λ (e : new.failed ≡ false). absurd (false≢true (sym e ∙ c.note-then-self.ensures.failed)) in
-    (sound_refused _ _ _ new.ending new.failed c.self.invariant.0 still, room_refused _ new.ending new.failed _ c.self.invariant.1 still, c.self.invariant.2)
+    let still = λ (e : new.failed ≡ false). absurd (false≢true (sym e ∙ c.note-then-self.ensures.failed)) in (
+      sound_refused _ _ _ new.ending new.failed c.self.invariant.0 still,
+      room_refused _ new.ending new.failed _ c.self.invariant.1 still,
+      c.self.invariant.2,
+      left_refused _ _ _ _ new.ending new.failed c.self.invariant.0 c.self.invariant.3 still,
+    )
 
 pub invariant_of-self-in-Ok : goal.invariant_of-self-in-Ok
 invariant_of-self-in-Ok g c =
@@ -28,6 +42,7 @@ invariant_of-self-in-Ok g c =
       sound_read _ _ _ files c.self.inside.ending c.self.inside.failed c.self.invariant.0 same still c.read_entity.ensures.reads,
       room_called _ files _ c.self.inside.ending c.self.inside.failed _ _ c.self.invariant.1 same still,
       c.self.invariant.2,
+      left_read _ _ _ _ files c.self.inside.ending c.self.inside.failed c.self.invariant.0 c.self.invariant.3 same still c.read_entity.ensures.reads c.read_entity.ensures.leaves,
     )
 
 pub invariant_of-self-in-Err-Fault : goal.invariant_of-self-in-Err-Fault
@@ -39,6 +54,7 @@ invariant_of-self-in-Err-Fault g c =
       sound_read _ _ _ files new.ending new.failed c.self.invariant.0 same still c.read_entity.ensures.reads,
       room_called _ files _ new.ending new.failed _ _ c.self.invariant.1 same still,
       c.self.invariant.2,
+      left_read _ _ _ _ files new.ending new.failed c.self.invariant.0 c.self.invariant.3 same still c.read_entity.ensures.reads c.read_entity.ensures.leaves,
     )
 
 pub invariant_of-self-in-Err-Changed : goal.invariant_of-self-in-Err-Changed
@@ -50,6 +66,7 @@ invariant_of-self-in-Err-Changed g c =
       sound_read _ _ _ files new.ending new.failed c.self.invariant.0 same still c.read_entity.ensures.reads,
       room_called _ files _ new.ending new.failed _ _ c.self.invariant.1 same still,
       c.self.invariant.2,
+      left_read _ _ _ _ files new.ending new.failed c.self.invariant.0 c.self.invariant.3 same still c.read_entity.ensures.reads c.read_entity.ensures.leaves,
     )
 
 -- ---- what reading asks for
@@ -90,6 +107,14 @@ returns-in-Ok-clause-entity g c =
     let there = c.self.invariant.0.on_disk told c.if-self.false in
     entity_read reads c.self.inside.index.contents _ c.args.id row is there.whole (there.rows c.args.id row is) right.id_is right.header out fits (c.in-Ok.ensures.entity told))
 
+pub returns-in-Ok-clause-spelled : goal.returns-in-Ok-clause-spelled
+returns-in-Ok-clause-spelled g c =
+    let row = c.in-Some.field-0.now in
+    let right = c.self.invariant.0.rows c.args.id row (sym c.in-Some.ensures) in
+    let out = c.read_entity.new.out in
+    let fits : IsBytes out = λ i. omega (arith, c.type_inv.out i) in
+    spelled_as_read out row.header c.args.id fits (omega (arith, right.header.1, c.requires.room)) (omega (arith, right.header.4)) right.header right.id_is c.in-Ok.ensures.same
+
 pub returns-in-Ok-clause-within : goal.returns-in-Ok-clause-within
 returns-in-Ok-clause-within g c =
     let right = c.self.invariant.0.rows c.args.id c.in-Some.field-0.now (sym c.in-Some.ensures) in
@@ -125,3 +150,29 @@ returns-in-Err-Changed-clause-gone g c =
     let reads = g.D.Disk.reads c.self.inside.files.disk in
     let other = changed_is_not c.note-in-Err-Changed.result c.args.id c.note-in-Err-Changed.ensures.same in
     rw (← c.self.view_is) (told_other reads c.self.inside.index.contents c.args.id c.in-Some.field-0.now _ (sym c.in-Some.ensures) other)
+
+-- ---- the turn
+
+pub returns-in_default-clause-turn : goal.returns-in_default-clause-turn
+returns-in_default-clause-turn g c =
+    let none = lists_row (g.D.Disk.reads c.self.inside.files.disk) c.self.inside.index.contents c.args.id ∙ ap (λ (o : Option Row). is_some o) (sym c.in_default.ensures) in
+    rw (← c.self.view_is) (λ listed.
+    turn_gone g.D.Disk.tells g.D.Disk.reads g.D.Disk.faults _ c.note.new.ending c.note.new.failed c.args.id c.self.invariant.0 c.note.ensures.ending c.note.ensures.failed
+    (silent g.D.Disk.tells (λ told. false≢true (sym none ∙ listed told))))
+
+-- ---- what the disk holds
+
+pub returns-in-Ok-clause-holding : goal.returns-in-Ok-clause-holding
+returns-in-Ok-clause-holding g c =
+    let e = c.read_entity.ensures in
+    rw (← c.self.view_is) (λ told. λ i. holding_in (e.transactions i).inventory.state (e.confirmed i) (content_of (e.reads told i)))
+
+pub returns-in-Err-Fault-clause-holding : goal.returns-in-Err-Fault-clause-holding
+returns-in-Err-Fault-clause-holding g c =
+    let e = c.read_entity.ensures in
+    rw (← c.self.view_is) (λ told. λ i. holding_in (e.transactions i).inventory.state (e.confirmed i) (content_of (e.reads told i)))
+
+pub returns-in-Err-Changed-clause-holding : goal.returns-in-Err-Changed-clause-holding
+returns-in-Err-Changed-clause-holding g c =
+    let e = c.read_entity.ensures in
+    rw (← c.self.view_is) (λ told. λ i. holding_in (e.transactions i).inventory.state (e.confirmed i) (content_of (e.reads told i)))

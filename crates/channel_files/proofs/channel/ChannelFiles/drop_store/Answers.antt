@@ -48,8 +48,8 @@ returns-clause-dropped g c =
           on_ok_all result (IsOfDisk t1 r1) (EachAsRead t1 r1 l1) (content_of r1 ≡ less) (t1.inventory.state ≡ drops_to s) (EachImage l1 (HasTable s.last_before before)) (ensures.of_disk told) (ensures.as_read told each) (ensures.content told) ensures.state
           (λ disk1 each1 same state image left.
           shown_dropped t r0 (of_disk told) at.0 at.1.0 at.1.1.0 at.1.1.1 image
-          (subst (λ (k : ℕ). Shows t1.log.header k t1.inventory.state.next_id 0 less image) (ap (λ (s : State). s.last) state ∙ drops_last s s.entry last)
-          (subst (λ (l : List Chunk). Shows t1.log.header t1.inventory.state.last t1.inventory.state.next_id 0 l image) same (each_shows t1 r1 l1 disk1 each1 image left))));
+          (subst (λ (k : ℕ). Shows t1.log.header k t1.inventory.state.next_id 0 0 less image) (ap (λ (s : State). s.last) state ∙ drops_last s s.entry last)
+          (subst (λ (l : List Chunk). Shows t1.log.header t1.inventory.state.last t1.inventory.state.next_id 0 0 l image) same (each_shows t1 r1 l1 disk1 each1 image left))));
       shows = ensures.shows;
       tables = λ told each image left. elim (ensures.shows told each image left) [
         | inl kept ↦ inl (shown_before r0 image kept)

@@ -54,7 +54,7 @@ returns-clause-stored g c =
           (EachImage l1 (HasStored c.args.number before (with_chunk chunk before))) (ensures.of_disk told) (ensures.as_read told each) (ensures.content told) ensures.state
           (λ disk1 each1 same p state image left.
           shown_after t r0 (of_disk told) chunk next image (ap (λ (s : State). s.last) state)
-          (subst (λ (l : List Chunk). Shows t1.log.header t1.inventory.state.last t1.inventory.state.next_id 0 l image) same (each_shows t1 r1 l1 disk1 each1 image left))));
+          (subst (λ (l : List Chunk). Shows t1.log.header t1.inventory.state.last t1.inventory.state.next_id 0 0 l image) same (each_shows t1 r1 l1 disk1 each1 image left))));
       shows = ensures.shows;
       tables = λ told each image left. elim (ensures.shows told each image left) [
         | inl old ↦ inl (shown_before r0 image old)

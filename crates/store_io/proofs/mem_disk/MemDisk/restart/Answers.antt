@@ -3,7 +3,7 @@ use Rattle.std.proofs.Common.{ap, subst, ◌∙◌}
 use Rattle.store_io.specs.Files.{leaves_of}
 use Rattle.store_io.specs.MemDisk.{DiskState}
 use Rattle.store_io.specs.Restart.{AllRestart}
-use Rattle.store_io.proofs.Restarts.{restart_reads, restart_clean, picked_left}
+use Rattle.store_io.proofs.Restarts.{restart_reads, restart_clean, restart_synced, picked_left}
 use Rattle.store_io.proofs.mem_disk.MemDisk.restart.Goals as goal
 
 pub returns-clause-reads : goal.returns-clause-reads
@@ -18,3 +18,6 @@ returns-clause-image c file =
 
 pub returns-clause-clean : goal.returns-clause-clean
 returns-clause-clean c file = restart_clean c.args.pick _ _ file c.in_ok-files.ensures
+
+pub returns-clause-synced : goal.returns-clause-synced
+returns-clause-synced c = restart_synced c.args.pick _ _ c.in_ok-files.ensures
