@@ -3,8 +3,6 @@
 
 mod channel_set;
 mod hand;
-#[cfg(test)]
-mod tests;
 
 pub use channel_set::ChannelSet;
 pub use hand::Hand;

@@ -8,6 +8,3 @@ mod walk;
 pub use append::append_chunk;
 pub use entity::{ReadFault, read_entity};
 pub use walk::{ChunkWalk, WalkFault, next_header};
-
-#[cfg(test)]
-mod tests;

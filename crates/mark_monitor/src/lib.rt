@@ -4,8 +4,6 @@
 mod channel_flags;
 mod fault;
 mod monitor;
-#[cfg(test)]
-mod tests;
 
 pub use fault::MonitorFault;
 pub use monitor::Monitor;

@@ -20,4 +20,3 @@ pub mod StoresKept
 pub mod GoodStores
 pub mod Serving
 pub mod TypesKept
-pub mod EmptyDisk

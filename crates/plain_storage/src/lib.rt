@@ -9,16 +9,12 @@ mod keep;
 mod laws;
 mod payload;
 mod serve;
-#[cfg(test)]
-mod serve_tests;
 mod session_disk;
 mod sound;
 mod storage;
 mod store_keeping;
 mod store_payload;
 mod stores_log;
-#[cfg(test)]
-mod tests;
 mod tree;
 mod type_log;
 

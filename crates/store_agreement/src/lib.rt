@@ -4,6 +4,3 @@
 mod agreement;
 
 pub use agreement::{Disagree, Last, agree};
-
-#[cfg(test)]
-mod tests;

@@ -9,6 +9,3 @@ mod write;
 pub use entry::{BadEntry, Entry};
 pub use read::read_entry;
 pub use write::write_entry;
-
-#[cfg(test)]
-mod tests;
