@@ -18,7 +18,7 @@ use Rattle.session_model.proofs.Reached.{walks-reached}
 use Rattle.object_registry.proofs.Finds.{search_finds}
 use Rattle.lazy_refs.specs.Mappings.{seen}
 use Rattle.lazy_refs.specs.Steps.{IsLeast, IsLoading, IsOutward, IsReady, IsRefusal, IsStep, IsWalked, object_in, object_of, reason_in, reason_of}
-use Rattle.lazy_refs.specs.Walks.{AreKnown, AsksFor, GoesOn, Progress, TurnsBy, TurnsWith, loaded_ids, object_at, refused_as}
+use Rattle.lazy_refs.specs.Walks.{AreKnown, AsksFor, IsNextStep, Progress, TurnsBy, TurnsWith, loaded_ids, object_at, refused_as}
 use Rattle.lazy_refs.specs.declared.step.LoadStep.{LoadStep}
 use Rattle.lazy_refs.specs.declared.step.LoadStep.TheVariants as steps
 use Rattle.lazy_refs.specs.declared.step.Reason.{Reason}
@@ -157,7 +157,7 @@ refusal types pairs instances g start p r e is = record {
 -- ---- a call
 
 goes_on : (types : List TypeDesc) (pairs : List Pair) (instances : Instances) (g : Graph) (start : ℕ) (between new : Progress) (step : LoadStep) → rises (ids g) ≡ true
-    → IsWalked types pairs instances g start between between.waiting → GoesOn between new step → IsStep types pairs instances g start new step
+    → IsWalked types pairs instances g start between between.waiting → IsNextStep between new step → IsStep types pairs instances g start new step
 goes_on types pairs instances g start between new (steps.Want id) rising w a = (
   a.asked,
   record {
@@ -181,7 +181,7 @@ turned types pairs instances g start entity object old new step l at t is =
 pub stepped : (types : List TypeDesc) (pairs : List Pair) (instances : Instances) (g : Graph) (start : ℕ) (entity : Entity) (old new : Progress) (step : LoadStep)
     → IsLoading types pairs instances g start old → entity_of g old.asked ≡ Some entity → TurnsWith types pairs instances entity old new step → IsStep types pairs instances g start new step
 stepped types pairs instances g start entity old new (steps.Broken id) l at t = tt
-stepped types pairs instances g start entity old new (steps.Want id) l at t = turned types pairs instances g start entity t.0 old new (steps.Want id) l at t.2 (t.2.becomes entity t.1)
-stepped types pairs instances g start entity old new (steps.Ready all) l at t = turned types pairs instances g start entity t.0 old new (steps.Ready all) l at t.2 (t.2.becomes entity t.1)
-stepped types pairs instances g start entity old new (steps.NoType id) l at t = turned types pairs instances g start entity t.0 old new (steps.NoType id) l at t.2 (t.2.becomes entity t.1)
-stepped types pairs instances g start entity old new (steps.WrongKind id) l at t = turned types pairs instances g start entity t.0 old new (steps.WrongKind id) l at t.2 (t.2.becomes entity t.1)
+stepped types pairs instances g start entity old new (steps.Want id) l at t = turned types pairs instances g start entity t.0 old new (steps.Want id) l at t.2 (t.2.becomes entity t.1.held)
+stepped types pairs instances g start entity old new (steps.Ready all) l at t = turned types pairs instances g start entity t.0 old new (steps.Ready all) l at t.2 (t.2.becomes entity t.1.held)
+stepped types pairs instances g start entity old new (steps.NoType id) l at t = turned types pairs instances g start entity t.0 old new (steps.NoType id) l at t.2 (t.2.becomes entity t.1.held)
+stepped types pairs instances g start entity old new (steps.WrongKind id) l at t = turned types pairs instances g start entity t.0 old new (steps.WrongKind id) l at t.2 (t.2.becomes entity t.1.held)

@@ -13,3 +13,4 @@ pub mod Taking
 pub mod Loads
 pub mod Ending
 pub mod Advancing
+pub mod Shapes

@@ -7,7 +7,7 @@ use Rattle.graph_model.specs.Ids.{has}
 use Rattle.graph_model.specs.Graph.{Graph, has_edge}
 use Rattle.graph_model.proofs.IdSets.{has_append}
 use Rattle.entity_form.specs.declared.value.Object.{Object}
-use Rattle.lazy_refs.specs.Steps.{EachNamed, IsNamed, IsOutward}
+use Rattle.lazy_refs.specs.Steps.{EachNamed, IsNamedIn, IsOutward}
 use Rattle.lazy_refs.specs.Walks.{loaded_ids, object_at}
 
 pub or_none : {A : Type 0} (a : Option A) → option_or a None ≡ a
@@ -28,17 +28,17 @@ loaded_ids-append (p ∷ ps) qs = ap (λ (xs : List ℕ). p.0 ∷ xs) (loaded_id
 
 -- ---- one more
 
-pub named_more : (g : Graph) (before more : List ℕ) (y : ℕ) → IsNamed g before y → IsNamed g (before ++ more) y
+pub named_more : (g : Graph) (before more : List ℕ) (y : ℕ) → IsNamedIn g before y → IsNamedIn g (before ++ more) y
 named_more g before more y n = (n.0, has_append n.0 before more ∙ or_left (has n.0 before) (has n.0 more) n.1, n.2)
 
 -- a is named by one of those before, or of the list
-pub record IsNamedBy (g : Graph) (before ys : List ℕ) (a : ℕ) : Type 0 where
+pub record IsNamedByOneOf (g : Graph) (before ys : List ℕ) (a : ℕ) : Type 0 where
   pub by : ℕ
   pub there : (has by before ≡ true) ⊎ (has by ys ≡ true)
   pub edge : has_edge g by a ≡ true
 
-each_more : (g : Graph) (before ys : List ℕ) (a : ℕ) → EachNamed g before ys → IsNamedBy g before ys a → EachNamed g before (ys ++ a ∷ [])
-each_more g before [] a each n = (elim n.there as (λ _. IsNamed g before a) [ inl h ↦ (n.by, h, n.edge) | inr h ↦ absurd (let never : false ≡ true = h in cc) ], tt)
+each_more : (g : Graph) (before ys : List ℕ) (a : ℕ) → EachNamed g before ys → IsNamedByOneOf g before ys a → EachNamed g before (ys ++ a ∷ [])
+each_more g before [] a each n = (elim n.there as (λ _. IsNamedIn g before a) [ inl h ↦ (n.by, h, n.edge) | inr h ↦ absurd (let never : false ≡ true = h in cc) ], tt)
 each_more g before (y ∷ ys) a each n = (each.0, each_more g (y ∷ before) ys a each.1 (record { by = n.by; there = moved n.there; edge = n.edge }))
   where
     moved : (has n.by before ≡ true) ⊎ (has n.by (y ∷ ys) ≡ true) → (has n.by (y ∷ before) ≡ true) ⊎ (has n.by ys ≡ true)
@@ -47,7 +47,7 @@ each_more g before (y ∷ ys) a each n = (each.0, each_more g (y ∷ before) ys 
 
 -- a new id that is the start or is named stands at the end
 pub outward_more : (g : Graph) (start : ℕ) (ps : List (ℕ × Object)) (a : ℕ) (o : Object) → object_at ps a ≡ None
-    → (loaded_ids ps ≡ []) ⊎ IsOutward g start (loaded_ids ps) → (a ≡ start) ⊎ IsNamed g (loaded_ids ps) a → IsOutward g start (loaded_ids ps ++ a ∷ [])
+    → (loaded_ids ps ≡ []) ⊎ IsOutward g start (loaded_ids ps) → (a ≡ start) ⊎ IsNamedIn g (loaded_ids ps) a → IsOutward g start (loaded_ids ps ++ a ∷ [])
 outward_more g start [] a o new before (inl same) = (same, tt)
 outward_more g start [] a o new before (inr n) = absurd (let never : false ≡ true = n.1 in cc)
 outward_more g start (p ∷ ps) a o new (inl e) n = absurd cc

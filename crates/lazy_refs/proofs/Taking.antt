@@ -14,7 +14,7 @@ use Rattle.entity_form.specs.declared.value.Object.{Object}
 use Rattle.refactor_table.specs.declared.name.Pair.{Pair}
 use Rattle.session_model.specs.Instances.{Instances, has_instance}
 use Rattle.session_model.specs.Loading.{Converted, conversion, eager_refs, loading_graph}
-use Rattle.lazy_refs.specs.Steps.{IsLeast, IsNamed, IsOutward, IsWalked, object_in, object_of, reason_in, reason_of}
+use Rattle.lazy_refs.specs.Steps.{IsLeast, IsNamedIn, IsOutward, IsWalked, object_in, object_of, reason_in, reason_of}
 use Rattle.lazy_refs.specs.Walks.{Progress, Takes, loaded_ids, loads_with, object_at, wanted}
 use Rattle.lazy_refs.proofs.Orders.{loaded_ids-append, named_more, object_at-append, or_none, outward_more}
 use Rattle.lazy_refs.proofs.Refusing.{IsMore, least_more, which}
@@ -75,7 +75,7 @@ loads_more found ps done a converted new is loads x = object_at-append ps (loads
     by false e = ap (option_or (object_at ps x)) (no_object a x converted e) ∙ or_none (object_at ps x) ∙ loads x
 
 outward_next : (g : Graph) (start a : ℕ) (ps : List (ℕ × Object)) (converted : Converted) → object_at ps a ≡ None
-    → (loaded_ids ps ≡ []) ⊎ IsOutward g start (loaded_ids ps) → (a ≡ start) ⊎ IsNamed g (loaded_ids ps) a
+    → (loaded_ids ps ≡ []) ⊎ IsOutward g start (loaded_ids ps) → (a ≡ start) ⊎ IsNamedIn g (loaded_ids ps) a
     → (loaded_ids (ps ++ loads_with a converted) ≡ []) ⊎ IsOutward g start (loaded_ids (ps ++ loads_with a converted))
 outward_next g start a ps (Converted.Loaded o) new before n = inr (subst (IsOutward g start) (sym (loaded_ids-append ps ((a, o) ∷ []))) (outward_more g start ps a o new before n))
 outward_next g start a ps Converted.NoType new before n = subst (λ (qs : List (ℕ × Object)). (loaded_ids qs ≡ []) ⊎ IsOutward g start (loaded_ids qs)) (nothing_more ps) before
@@ -83,7 +83,7 @@ outward_next g start a ps Converted.WrongKind new before n = subst (λ (qs : Lis
 
 -- a new edge leads from what was loaded
 named_new : (g : Graph) (instances : Instances) (a y : ℕ) (ps : List (ℕ × Object)) (converted : Converted) → edges_of (entity_of g a) ≡ wanted instances (eager_refs converted)
-    → has y (wanted instances (eager_refs converted)) ≡ true → IsNamed g (loaded_ids (ps ++ loads_with a converted)) y
+    → has y (wanted instances (eager_refs converted)) ≡ true → IsNamedIn g (loaded_ids (ps ++ loads_with a converted)) y
 named_new g instances a y ps (Converted.Loaded o) edges h = (a, there, ap (has y) edges ∙ h)
   where
     there : has a (loaded_ids (ps ++ (a, o) ∷ [])) ≡ true
@@ -91,9 +91,9 @@ named_new g instances a y ps (Converted.Loaded o) edges h = (a, there, ap (has y
 named_new g instances a y ps Converted.NoType edges h = absurd (let never : false ≡ true = h in cc)
 named_new g instances a y ps Converted.WrongKind edges h = absurd (let never : false ≡ true = h in cc)
 
-named_still : (g : Graph) (start a y : ℕ) (ps : List (ℕ × Object)) (converted : Converted) → (y ≡ start) ⊎ IsNamed g (loaded_ids ps) y → (y ≡ start) ⊎ IsNamed g (loaded_ids (ps ++ loads_with a converted)) y
+named_still : (g : Graph) (start a y : ℕ) (ps : List (ℕ × Object)) (converted : Converted) → (y ≡ start) ⊎ IsNamedIn g (loaded_ids ps) y → (y ≡ start) ⊎ IsNamedIn g (loaded_ids (ps ++ loads_with a converted)) y
 named_still g start a y ps converted (inl same) = inl same
-named_still g start a y ps converted (inr n) = inr (subst (λ (xs : List ℕ). IsNamed g xs y) (sym (loaded_ids-append ps (loads_with a converted))) (named_more g (loaded_ids ps) (loaded_ids (loads_with a converted)) y n))
+named_still g start a y ps converted (inr n) = inr (subst (λ (xs : List ℕ). IsNamedIn g xs y) (sym (loaded_ids-append ps (loads_with a converted))) (named_more g (loaded_ids ps) (loaded_ids (loads_with a converted)) y n))
 
 -- ---- the walk
 
@@ -114,7 +114,7 @@ taken types pairs instances g start old between e converted w new at is t = reco
       ∙ sym (ap (λ (b : Bool). cond b (object_in types pairs g x) None) (more x));
   least = subst (IsLeast types pairs g between.done) (sym t.refused) (least_more types pairs g old.done between.done old.asked converted old.refused more reason w.least);
   outward = subst (λ (ps : List (ℕ × Object)). (loaded_ids ps ≡ []) ⊎ IsOutward (loading_graph types pairs instances g) start (loaded_ids ps)) (sym t.loaded) (outward_next (loading_graph types pairs instances g) start old.asked old.loaded converted unloaded w.outward (w.named old.asked last));
-  named = λ y h. subst (λ (ps : List (ℕ × Object)). (y ≡ start) ⊎ IsNamed (loading_graph types pairs instances g) (loaded_ids ps) y) (sym t.loaded) (elim (or_cases (has y old.waiting) (has y (wanted instances (eager_refs converted))) (sym (has_append y old.waiting (wanted instances (eager_refs converted))) ∙ ap (has y) (sym t.waiting) ∙ h)) [
+  named = λ y h. subst (λ (ps : List (ℕ × Object)). (y ≡ start) ⊎ IsNamedIn (loading_graph types pairs instances g) (loaded_ids ps) y) (sym t.loaded) (elim (or_cases (has y old.waiting) (has y (wanted instances (eager_refs converted))) (sym (has_append y old.waiting (wanted instances (eager_refs converted))) ∙ ap (has y) (sym t.waiting) ∙ h)) [
     | inl there ↦ named_still (loading_graph types pairs instances g) start old.asked y old.loaded converted (w.named y (has_append y old.waiting (old.asked ∷ []) ∙ or_left (has y old.waiting) (has y (old.asked ∷ [])) there))
     | inr edge ↦ inr (named_new (loading_graph types pairs instances g) instances old.asked y old.loaded converted edges edge)
   ]);

@@ -87,9 +87,9 @@ taken types pairs instances entity object old new step of t all =
 pub typed_step : (types : List TypeDesc) (pairs : List Pair) (instances : Instances) (entity : Entity) (old new : Progress) (step : LoadStep)
     → TurnsWith types pairs instances entity old new step → AreTypedIn types old.loaded → IsTypedStep types new step
 typed_step types pairs instances entity old new (steps.Want id) t all =
-    subst (AreTypedIn types) (sym t.2.turns.goes_on.loaded) (taken types pairs instances entity t.0 old new (steps.Want id) t.1 t.2 all)
+    subst (AreTypedIn types) (sym t.2.turns.goes_on.loaded) (taken types pairs instances entity t.0 old new (steps.Want id) t.1.held t.2 all)
 typed_step types pairs instances entity old new (steps.Ready all) t typed =
-    subst (AreTypedIn types) (sym t.2.turns.goes_on.1.1) (taken types pairs instances entity t.0 old new (steps.Ready all) t.1 t.2 typed)
+    subst (AreTypedIn types) (sym t.2.turns.goes_on.1.1) (taken types pairs instances entity t.0 old new (steps.Ready all) t.1.held t.2 typed)
 typed_step types pairs instances entity old new (steps.NoType id) t all = tt
 typed_step types pairs instances entity old new (steps.WrongKind id) t all = tt
 typed_step types pairs instances entity old new (steps.Broken id) t all = tt

@@ -1,11 +1,12 @@
--- Entities that have their type's form, and the objects that they hold.
-use Rattle.std.specs.Prelude.{◌≡◌, List, Option, Some, None}
+-- The objects that well-formed entities hold.
+use Rattle.std.specs.Prelude.{◌≡◌, ℕ, nat_eq, List, Option, Some, None}
 use Rattle.graph_model.specs.declared.entity.Entity.{Entity}
 use Rattle.type_desc.specs.declared.desc.TypeDesc.{TypeDesc}
 use Rattle.type_dictionary.specs.Latest.{desc_of}
 use Rattle.entity_form.specs.Form.{Holds}
 use Rattle.entity_form.specs.Values.{kinds_of}
 use Rattle.entity_form.specs.declared.value.Object.{Object}
+use Rattle.session_model.specs.WellFormed.{IsWellFormed}
 
 -- the entity's type is known, and the entity holds the values of this object of it
 pub record IsObjectOf (types : List TypeDesc) (entity : Entity) (object : Object) : Type 0 where
@@ -14,11 +15,12 @@ pub record IsObjectOf (types : List TypeDesc) (entity : Entity) (object : Object
   pub known : desc_of types entity.type_id ≡ Some desc
   pub holds : Holds (kinds_of desc) entity.refs entity.plain object.values
 
--- the entity has its type's form
-abbrev pub HasForm : List TypeDesc → Entity → Type 0
-HasForm types entity = (object : Object) × IsObjectOf types entity object
+-- the entity of the id holds the object, and has the root's type exactly where the id is the root's
+pub record IsObjectAt (types : List TypeDesc) (id : ℕ) (entity : Entity) (object : Object) : Type 0 where
+  pub held : IsObjectOf types entity object
+  pub root : nat_eq entity.type_id 1 ≡ nat_eq id 1
 
--- the object that the entity holds, or there is none
-abbrev pub IsReadAs : List TypeDesc → Entity → Option Object → Type 0
-IsReadAs types entity None = ¬ (HasForm types entity)
-IsReadAs types entity (Some object) = IsObjectOf types entity object
+-- the object that the entity of an id holds; or the entity is not well-formed
+abbrev pub IsReadAs : List TypeDesc → ℕ → Entity → Option Object → Type 0
+IsReadAs types id entity None = ¬ (IsWellFormed types id entity)
+IsReadAs types id entity (Some object) = IsObjectAt types id entity object

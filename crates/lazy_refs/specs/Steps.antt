@@ -7,9 +7,9 @@ use Rattle.type_desc.specs.declared.desc.TypeDesc.{TypeDesc}
 use Rattle.entity_form.specs.declared.value.Object.{Object}
 use Rattle.refactor_table.specs.declared.name.Pair.{Pair}
 use Rattle.session_model.specs.Instances.{Instances}
+use Rattle.session_model.specs.WellFormed.{IsWellFormed}
 use Rattle.session_model.specs.Loading.{Converted, conversion, load, loading_graph}
 use Rattle.object_registry.specs.Registered.{put_loaded}
-use Rattle.lazy_refs.specs.Forms.{HasForm}
 use Rattle.lazy_refs.specs.Mappings.{AreTypedIn}
 use Rattle.lazy_refs.specs.Walks.{Progress, loaded_ids, object_at, refused_as}
 use Rattle.lazy_refs.specs.declared.step.LoadStep.{LoadStep}
@@ -41,13 +41,13 @@ reason_in types pairs g x = option_and_then (λ (e : Entity). reason_of (convers
 -- ---- outward order
 
 -- one of these ids names y
-abbrev pub IsNamed : Graph → List ℕ → ℕ → Type 0
-IsNamed g before y = (x : ℕ) × (has x before ≡ true) × (has_edge g x y ≡ true)
+abbrev pub IsNamedIn : Graph → List ℕ → ℕ → Type 0
+IsNamedIn g before y = (x : ℕ) × (has x before ≡ true) × (has_edge g x y ≡ true)
 
 -- each is named by one of those before or by an earlier one
 abbrev pub EachNamed : Graph → List ℕ → List ℕ → Type 0
 EachNamed g before [] = Unit {0}
-EachNamed g before (y ∷ ys) = IsNamed g before y × EachNamed g (y ∷ before) ys
+EachNamed g before (y ∷ ys) = IsNamedIn g before y × EachNamed g (y ∷ before) ys
 
 -- the first is the start, and each other one is named by an earlier one
 abbrev pub IsOutward : Graph → ℕ → List ℕ → Type 0
@@ -75,7 +75,7 @@ pub record IsWalked (types : List TypeDesc) (pairs : List Pair) (instances : Ins
   pub least : IsLeast types pairs g p.done p.refused
   -- what is loaded stands in outward order, and leads to what is open
   pub outward : (loaded_ids p.loaded ≡ []) ⊎ IsOutward (loading_graph types pairs instances g) start (loaded_ids p.loaded)
-  pub named : (y : ℕ) → has y open_ids ≡ true → (y ≡ start) ⊎ IsNamed (loading_graph types pairs instances g) (loaded_ids p.loaded) y
+  pub named : (y : ℕ) → has y open_ids ≡ true → (y ≡ start) ⊎ IsNamedIn (loading_graph types pairs instances g) (loaded_ids p.loaded) y
 
 -- the walk from the start over a graph by rising ids: the asked id is open, and new
 pub record IsLoading (types : List TypeDesc) (pairs : List Pair) (instances : Instances) (g : Graph) (start : ℕ) (p : Progress) : Type 0 where
@@ -110,12 +110,12 @@ IsStep types pairs instances g start p (steps.NoType id) = IsRefusal types pairs
 IsStep types pairs instances g start p (steps.WrongKind id) = IsRefusal types pairs instances g start (codes "wrong-kind") (refused_as id reasons.WrongKind)
 IsStep types pairs instances g start p (steps.Broken id) = Unit {0}
 
--- the given entity has not its type's form exactly where the asked id is broken
-abbrev pub IsBrokenWhere : List TypeDesc → Progress → Option Entity → LoadStep → Type 0
-IsBrokenWhere types p None (steps.Broken id) = ⊥
-IsBrokenWhere types p None step = Unit {0}
-IsBrokenWhere types p (Some entity) (steps.Broken id) = (id ≡ p.asked) × ¬ (HasForm types entity)
-IsBrokenWhere types p (Some entity) step = HasForm types entity
+-- the given entity is not well-formed exactly where the asked id is broken
+abbrev pub IsBrokenAtAsked : List TypeDesc → Progress → Option Entity → LoadStep → Type 0
+IsBrokenAtAsked types p None (steps.Broken id) = ⊥
+IsBrokenAtAsked types p None step = Unit {0}
+IsBrokenAtAsked types p (Some entity) (steps.Broken id) = (id ≡ p.asked) × ¬ (IsWellFormed types p.asked entity)
+IsBrokenAtAsked types p (Some entity) step = IsWellFormed types p.asked entity
 
 -- the objects that are loaded so far, or all of them, are typed
 abbrev pub IsTypedStep : List TypeDesc → Progress → LoadStep → Type 0

@@ -8,7 +8,8 @@ use Rattle.entity_form.specs.declared.value.Object.{Object}
 use Rattle.refactor_table.specs.declared.name.Pair.{Pair}
 use Rattle.session_model.specs.Instances.{Instances, has_instance}
 use Rattle.session_model.specs.Loading.{Converted, eager_refs}
-use Rattle.lazy_refs.specs.Forms.{HasForm, IsObjectOf}
+use Rattle.session_model.specs.WellFormed.{IsWellFormed}
+use Rattle.lazy_refs.specs.Forms.{IsObjectAt}
 use Rattle.lazy_refs.specs.Mappings.{Becomes, seen}
 use Rattle.lazy_refs.specs.declared.mapping.Mapping.{Mapping}
 use Rattle.lazy_refs.specs.declared.mapping.Outcome.{Outcome}
@@ -107,18 +108,18 @@ pub record AsksFor (old new : Progress) (id : ℕ) : Type 0 where
   pub loaded : new.loaded ≡ old.loaded
   pub refused : new.refused ≡ old.refused
 
-abbrev pub GoesOn : Progress → Progress → LoadStep → Type 0
-GoesOn old new (steps.Want id) = AsksFor old new id
-GoesOn old new (steps.Ready all) = AreKnown old.done old.waiting × Ends old (steps.Ready all)
-GoesOn old new (steps.NoType id) = AreKnown old.done old.waiting × Ends old (steps.NoType id)
-GoesOn old new (steps.WrongKind id) = AreKnown old.done old.waiting × Ends old (steps.WrongKind id)
-GoesOn old new (steps.Broken id) = ⊥
+abbrev pub IsNextStep : Progress → Progress → LoadStep → Type 0
+IsNextStep old new (steps.Want id) = AsksFor old new id
+IsNextStep old new (steps.Ready all) = AreKnown old.done old.waiting × Ends old (steps.Ready all)
+IsNextStep old new (steps.NoType id) = AreKnown old.done old.waiting × Ends old (steps.NoType id)
+IsNextStep old new (steps.WrongKind id) = AreKnown old.done old.waiting × Ends old (steps.WrongKind id)
+IsNextStep old new (steps.Broken id) = ⊥
 
 -- the asked id is done, and the walk goes on
 pub record Turns (instances : Instances) (converted : Converted) (old new : Progress) (step : LoadStep) : Type 0 where
   pub between : Progress
   pub takes : Takes instances converted old between
-  pub goes_on : GoesOn between new step
+  pub goes_on : IsNextStep between new step
 
 -- the asked id's entity holds the object
 pub record TurnsBy (types : List TypeDesc) (pairs : List Pair) (instances : Instances) (object : Object) (old new : Progress) (step : LoadStep) : Type 0 where
@@ -128,5 +129,5 @@ pub record TurnsBy (types : List TypeDesc) (pairs : List Pair) (instances : Inst
 
 -- the asked id's entity is this
 abbrev pub TurnsWith : List TypeDesc → List Pair → Instances → Entity → Progress → Progress → LoadStep → Type 0
-TurnsWith types pairs instances entity old new (steps.Broken id) = (id ≡ old.asked) × ¬ (HasForm types entity)
-TurnsWith types pairs instances entity old new step = (object : Object) × IsObjectOf types entity object × TurnsBy types pairs instances object old new step
+TurnsWith types pairs instances entity old new (steps.Broken id) = (id ≡ old.asked) × ¬ (IsWellFormed types old.asked entity)
+TurnsWith types pairs instances entity old new step = (object : Object) × IsObjectAt types old.asked entity object × TurnsBy types pairs instances object old new step

@@ -7,9 +7,9 @@ ghost use Rattle.refactor_table.specs.declared.name.Pair.{Pair as AnyPair};
 ghost use Rattle.session_model.specs.Instances.{Instances};
 ghost use Rattle.type_desc.specs.declared.desc.TypeDesc.{TypeDesc as AnyDesc};
 ghost use Rattle.lazy_refs.specs.Advances.{IsAskedNext, IsDoneNext};
-ghost use Rattle.lazy_refs.specs.Steps.{IsBrokenWhere, IsGiven, IsLoading, IsStep, IsTypedStep};
+ghost use Rattle.lazy_refs.specs.Steps.{IsBrokenAtAsked, IsGiven, IsLoading, IsStep, IsTypedStep};
 ghost use Rattle.lazy_refs.specs.Mappings.{AreMappings, AreTypedIn, Becomes, IsTyped, seen};
-ghost use Rattle.lazy_refs.specs.Walks.{AreKnown, Ends, GoesOn, IsAsFar, IsNext, Takes, Turns, TurnsBy, TurnsWith, begun, lower_of, of_reason};
+ghost use Rattle.lazy_refs.specs.Walks.{AreKnown, Ends, IsNextStep, IsAsFar, IsNext, Takes, Turns, TurnsBy, TurnsWith, begun, lower_of, of_reason};
 
 use crate::mapping::{Mapper, Mappings, Outcome, read};
 use crate::references::push_values;
@@ -160,7 +160,7 @@ impl Loading {
 
     /// Asks for the next id, where one is left.
     fn go_on(&mut self) -> LoadStep
-        ensures step { GoesOn self.old self.new result }
+        ensures step { IsNextStep self.old self.new result }
         ensures mappings { self.new.mappings ≡ self.old.mappings }
     {
         match next_waiting(&mut self.waiting, &self.done) {
@@ -235,7 +235,7 @@ impl Loading {
         ensures step { IfOk result (TurnsWith types.now table.now registry.now.instances entity.now self.old self.new) }
         ensures mappings { OnOk result (AreMappings types.now table.now self.new.mappings) }
     {
-        match read(self.alloc, types, entity) {
+        match read(self.alloc, types, self.asked, entity) {
             Ok(Some(object)) => self.take_object(registry, types, table, object),
             Ok(None) => Ok(LoadStep::Broken { id: self.asked }),
             Err(NoMemory) => Err(NoMemory),
@@ -257,8 +257,8 @@ impl Loading {
         requires typed { AreTypedIn types.now self.old.loaded }
         ensures mappings { OnOk result (AreMappings types.now table.now self.new.mappings) }
         ensures typed { IfOk result (IsTypedStep types.now self.new) }
-        // The entity that was given has not its type's form.
-        ensures broken { IfOk result (IsBrokenWhere types.now self.old given) }
+        // The entity that was given is not well-formed.
+        ensures broken { IfOk result (IsBrokenAtAsked types.now self.old given) }
         ensures done { IfOk result (IsDoneNext given self.old self.new) }
         ensures asks { IfOk result (IsAskedNext self.new) }
         // In every graph that has the entity, the walk is where it should be.

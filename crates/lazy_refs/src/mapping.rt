@@ -18,6 +18,9 @@ use std::collections::BTreeMap;
 use type_desc::{Text, TypeDesc};
 use type_dictionary::Dictionary;
 
+/// The id of the root, and of its type.
+const ROOT: u64 = 1;
+
 /// What becomes of the entities of a stored type.
 #[derive(Debug, Drop)]
 pub enum Mapping {
@@ -49,10 +52,19 @@ pub struct Mapper<'a> {
     pub table: &'a RefactorTable,
 }
 
-/// The object that an entity holds, or `None` where the entity has not its type's form.
-pub fn read(alloc: Global, types: &Dictionary, entity: &Entity) -> Result<Option<Object>, NoMemory>
-    ensures { IfOk result (IsReadAs types.now entity.now) }
+/// The object that the entity of an id holds, or `None` where the entity is not well-formed: its type is not known, it has not the type's form,
+/// or it has the root's type and is not the root, or the other way round.
+pub fn read(
+    alloc: Global,
+    types: &Dictionary,
+    id: u64,
+    entity: &Entity,
+) -> Result<Option<Object>, NoMemory>
+    ensures { IfOk result (IsReadAs types.now id entity.now) }
 {
+    if (entity.type_id == ROOT) != (id == ROOT) {
+        return Ok(None);
+    }
     match types.by_id(entity.type_id) {
         Some(desc) => match decode(alloc, entity, desc) {
             Ok(object) => Ok(Some(object)),

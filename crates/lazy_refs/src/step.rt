@@ -15,7 +15,8 @@ pub enum LoadStep {
     /// This is the least of the ids that cannot be converted: in its entity's type and the latest one, a member
     /// and its source are of two kinds.
     WrongKind { id: u64 },
-    /// The entity that was given for this id has not its type's form.
+    /// The entity that was given for this id is not well-formed: it has not its type's form, or the root's type and not the root's id, or the
+    /// other way round.
     Broken { id: u64 },
 }
 

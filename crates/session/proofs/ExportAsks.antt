@@ -12,23 +12,23 @@ use Rattle.graph_model.specs.declared.entity.Entity.{Entity}
 use Rattle.session_model.specs.Answer.{State, Turn, export_turn}
 use Rattle.session_model.specs.Instances.{Instance, Instances, instance_at}
 use Rattle.session_model.proofs.Allowing.{exported_is_kept}
-use Rattle.session.specs.declared.exporting.ExportStep.TheVariants as steps
-use Rattle.session.specs.declared.exporting.Stage.{Stage}
-use Rattle.session.specs.declared.exporting.Stage.TheVariants as stages
-use Rattle.session.specs.declared.memory.Memory.{Memory}
-use Rattle.session.specs.declared.outcome.Phase.TheVariants as phases
-use Rattle.session.specs.Due.{Answers, Awaits, Replied}
-use Rattle.session.specs.ExportEnds.{IsRestBehind}
-use Rattle.session.specs.Exports.{Exported, IsExporting, IsExportStep, IsGiven, IsTelling, IsTellingFor, TellsLine, due, line_at, reached_from_root}
-use Rattle.session.specs.Stands.{StandsAt}
-use Rattle.session.proofs.Asks.{stands_same}
-use Rattle.session.proofs.ExportSteps.{in_stage}
+use Rattle.session_lines.specs.declared.exporting.ExportStep.TheVariants as steps
+use Rattle.session_lines.specs.declared.exporting.Stage.{Stage}
+use Rattle.session_lines.specs.declared.exporting.Stage.TheVariants as stages
+use Rattle.session_lines.specs.declared.memory.Memory.{Memory}
+use Rattle.session_lines.specs.declared.outcome.Phase.TheVariants as phases
+use Rattle.session_lines.specs.Due.{Answers, Awaits, Replied}
+use Rattle.session_lines.specs.ExportEnds.{IsRestBehind}
+use Rattle.session_lines.specs.Exports.{Exported, IsExporting, IsExportStep, IsGiven, IsTelling, IsTellingFor, TellsLine, due, line_at, reached_from_root}
+use Rattle.session_lines.specs.Stands.{IsAtState}
+use Rattle.session_lines.proofs.Asks.{stands_same}
+use Rattle.session_lines.proofs.ExportSteps.{in_stage}
 
 -- once the script has begun, the graph has the root where the root's object is saved
-pub root_is_saved : (memory : Memory) (storage : Storage) (state : State) (i : Instance) → StandsAt memory storage state → Some i ≡ instance_at memory.registry.instances 1 → i.saved ≡ lists state.graph 1
+pub root_is_saved : (memory : Memory) (storage : Storage) (state : State) (i : Instance) → IsAtState memory storage state → Some i ≡ instance_at memory.registry.instances 1 → i.saved ≡ lists state.graph 1
 root_is_saved memory storage state i at here = sym (at.stands.sound.each 1 i (ap (λ (hs : Instances). instance_at hs 1) (sym at.stands.instances) ∙ sym here)).saved
 
-pub root_is_here : (memory : Memory) (storage : Storage) (state : State) → StandsAt memory storage state → state.started ≡ true → None ≡ instance_at memory.registry.instances 1 → ⊥
+pub root_is_here : (memory : Memory) (storage : Storage) (state : State) → IsAtState memory storage state → state.started ≡ true → None ≡ instance_at memory.registry.instances 1 → ⊥
 root_is_here memory storage state at started none =
     let there = at.stands.sound.root started in
     let never : None ≡ Some there.0 = none ∙ (ap (λ (hs : Instances). instance_at hs 1) at.stands.instances ∙ there.1) in
@@ -55,6 +55,7 @@ telling_for text state memory storage turn p r e = record {
   told = r.told;
   records = r.records;
   stores = r.stores;
+  housekeeping = r.housekeeping;
   state_is = r.state_is;
 }
 
@@ -75,7 +76,7 @@ looks_awaits is_next_type text state memory storage turn p id r step = record {
 
     replied : (reply : Reply) (new : Storage) → Served storage (asks.Look id) reply new → Replied (phases.Exporting p) reply memory new turn
     replied reply new served = subst (λ (q : Reply). Replied (phases.Exporting p) q memory new turn) (sym served.reply_is) (record {
-      telling = telling_for text state memory new turn p (record { stands = stands_same memory storage new state r.stands served.same; told = r.told; records = r.records; stores = r.stores; state_is = r.state_is }) step.2;
+      telling = telling_for text state memory new turn p (record { stands = stands_same memory storage new state r.stands served.same; told = r.told; records = r.records; stores = r.stores; housekeeping = r.housekeeping; state_is = r.state_is }) step.2;
       given = found new served.entity served.same.others.graph served.found;
       asked = ap is_some step.0;
     })
@@ -87,7 +88,7 @@ line_tells text state memory storage turn p bytes r step = record {
   rest = rest.0;
   text = append_cancel_left text turn.text (bytes ++ rest.0) (r.told ∙ (sym rest.1 ∙ append_assoc text bytes rest.0));
   is_line = step.1;
-  telling = telling_for (text ++ bytes) state memory storage (record turn { text = rest.0 }) p (record { stands = r.stands; told = rest.1; records = r.records; stores = r.stores; state_is = r.state_is }) step.2;
+  telling = telling_for (text ++ bytes) state memory storage (record turn { text = rest.0 }) p (record { stands = r.stands; told = rest.1; records = r.records; stores = r.stores; housekeeping = r.housekeeping; state_is = r.state_is }) step.2;
   asked = step.0;
 }
   where
@@ -102,14 +103,15 @@ end_answers text state memory storage turn p bytes r step = record {
   line = step.0;
   records = r.records;
   stores = r.stores;
-  stands = subst (λ (s : State). StandsAt memory storage s) (sym r.state_is) r.stands;
+  housekeeping = r.housekeeping;
+  stands = subst (λ (s : State). IsAtState memory storage s) (sym r.state_is) r.stands;
 }
 
 -- ---- where an export goes on
 
 pub rest_of_telling : (p : Exported) (memory : Memory) (storage : Storage) (turn : Turn) → (t : IsTellingFor p memory storage turn) → IsRestBehind t.text t.state memory storage turn
-rest_of_telling p memory storage turn t = record { stands = t.stands; told = t.told; records = t.records; stores = t.stores; state_is = t.state_is }
+rest_of_telling p memory storage turn t = record { stands = t.stands; told = t.told; records = t.records; stores = t.stores; housekeeping = t.housekeeping; state_is = t.state_is }
 
 -- at first nothing was told
-pub rest_at_first : (memory : Memory) (storage : Storage) (state : State) → StandsAt memory storage state → IsRestBehind [] state memory storage (export_turn state)
-rest_at_first memory storage state at = record { stands = at; told = refl; records = refl; stores = refl; state_is = refl }
+pub rest_at_first : (memory : Memory) (storage : Storage) (state : State) → IsAtState memory storage state → IsRestBehind [] state memory storage (export_turn state)
+rest_at_first memory storage state at = record { stands = at; told = refl; records = refl; stores = refl; housekeeping = refl; state_is = refl }

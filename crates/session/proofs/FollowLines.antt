@@ -13,18 +13,18 @@ use Rattle.session_model.specs.Answer.{State, Turn, Refusal, bound, follow_turn,
 use Rattle.session_model.specs.Sound.{IsSound}
 use Rattle.session_model.proofs.Allowing.{named_to_load}
 use Rattle.session_model.proofs.Setting.{named_by_value}
-use Rattle.session.specs.declared.memory.Memory.{Memory}
-use Rattle.session.specs.declared.outcome.Purpose.TheVariants as purposes
-use Rattle.session.specs.declared.refusal.Stop.{Stop}
-use Rattle.session.specs.declared.refusal.Stop.TheVariants.{Refused}
-use Rattle.session.specs.declared.refusal.Refusal.TheVariants as refusals
+use Rattle.session_lines.specs.declared.memory.Memory.{Memory}
+use Rattle.session_lines.specs.declared.outcome.Purpose.TheVariants as purposes
+use Rattle.session_lines.specs.declared.refusal.Stop.{Stop}
+use Rattle.session_lines.specs.declared.refusal.Stop.TheVariants.{Refused}
+use Rattle.session_lines.specs.declared.refusal.Refusal.TheVariants as refusals
 use Rattle.session.specs.LoadSteps.{IsFollowed}
-use Rattle.session.specs.Loads.{LoadsFor}
-use Rattle.session.specs.Places.{IsFree, IsMissing, IsNotFree, IsPlace}
-use Rattle.session.specs.Refusals.{IsRefusal}
-use Rattle.session.specs.Stands.{Stands, StandsAt}
-use Rattle.session.proofs.Found.{Finds, finds_it, found_goes_on, missing_refuses}
-use Rattle.session.proofs.Judged.{judged_first, judged_next}
+use Rattle.session_lines.specs.Loads.{LoadsFor}
+use Rattle.session_lines.specs.Places.{IsFree, IsMissing, IsNotFree, IsPlace}
+use Rattle.session_lines.specs.Refusals.{IsRefusal}
+use Rattle.session_lines.specs.Stands.{Stands, IsAtState}
+use Rattle.session_lines.proofs.Found.{Finds, finds_it, found_goes_on, missing_refuses}
+use Rattle.session_lines.proofs.Judged.{judged_first, judged_next}
 
 -- ---- what is judged
 
@@ -35,7 +35,7 @@ others state new target = wrong_kind (is_none target) ∷ reserved (is_root_name
 abbrev effect : State → List ℕ → Option ℕ → Turn
 effect state new target = loaded_turn state new (unwrap_or target 0) (with_loaded state (unwrap_or target 0))
 
-pub missing_judged : (memory : Memory) (storage : Storage) (state : State) (name member new : List ℕ) (stop : Stop) → StandsAt memory storage state → state.started ≡ true
+pub missing_judged : (memory : Memory) (storage : Storage) (state : State) (name member new : List ℕ) (stop : Stop) → IsAtState memory storage state → state.started ≡ true
     → IsMissing memory.registry memory.types name member stop → IsRefusal state (follow_turn state name member new) stop
 missing_judged memory storage state name member new stop at started missing =
     missing_refuses memory storage state name member (others state new (ref_in (value_of state name member))) (effect state new (ref_in (value_of state name member))) stop at.stands started missing
@@ -49,14 +49,14 @@ follow_found memory storage state name member new id index value target s place 
     found_goes_on state name member id place.instance index value (others state new (ref_in (value_of state name member))) (effect state new (ref_in (value_of state name member))) f
     ∙ ap (λ (o : Option ℕ). judged state (others state new o) (effect state new o)) (ap ref_in f.value_is ∙ sym is)
 
-pub other_kind_judged : (memory : Memory) (storage : Storage) (state : State) (name member new : List ℕ) (id index : ℕ) (value : Value) → StandsAt memory storage state
+pub other_kind_judged : (memory : Memory) (storage : Storage) (state : State) (name member new : List ℕ) (id index : ℕ) (value : Value) → IsAtState memory storage state
     → IsPlace memory.registry memory.types name member id index value → None ≡ ref_in (Some value) → IsRefusal state (follow_turn state name member new) (Refused refusals.WrongKind)
 other_kind_judged memory storage state name member new id index value at place is = follow_found memory storage state name member new id index value None at.stands place is
 
 bound_as : (memory : Memory) (storage : Storage) (state : State) (name : List ℕ) → Stands memory storage state → is_bound state name ≡ is_some (id_in memory.registry.names name)
 bound_as memory storage state name s = ap (λ (o : Option ℕ). is_some o) (sym (s.names name))
 
-pub not_free_judged : (memory : Memory) (storage : Storage) (state : State) (name member new : List ℕ) (id index : ℕ) (value : Value) (target : ℕ) (stop : Stop) → StandsAt memory storage state
+pub not_free_judged : (memory : Memory) (storage : Storage) (state : State) (name member new : List ℕ) (id index : ℕ) (value : Value) (target : ℕ) (stop : Stop) → IsAtState memory storage state
     → IsPlace memory.registry memory.types name member id index value → Some target ≡ ref_in (Some value) → IsNotFree memory.registry new stop → IsRefusal state (follow_turn state name member new) stop
 not_free_judged memory storage state name member new id index value target (Refused refusals.Reserved) at place is not_free =
     follow_found memory storage state name member new id index value (Some target) at.stands place is
@@ -76,7 +76,7 @@ follow_free memory storage state name member new id index value target s place i
     ∙ (judged_next state (reserved (is_root_name new)) (name_taken (is_bound state new) ∷ no_target (target == 0) ∷ []) (effect state new (Some target)) free.other
     ∙ judged_next state (name_taken (is_bound state new)) (no_target (target == 0) ∷ []) (effect state new (Some target)) (bound_as memory storage state new s ∙ ap (λ (o : Option ℕ). is_some o) free.free))
 
-pub no_target_judged : (memory : Memory) (storage : Storage) (state : State) (name member new : List ℕ) (id index : ℕ) (value : Value) → StandsAt memory storage state
+pub no_target_judged : (memory : Memory) (storage : Storage) (state : State) (name member new : List ℕ) (id index : ℕ) (value : Value) → IsAtState memory storage state
     → IsPlace memory.registry memory.types name member id index value → Some 0 ≡ ref_in (Some value) → IsFree memory.registry new → IsRefusal state (follow_turn state name member new) (Refused refusals.NoTarget)
 no_target_judged memory storage state name member new id index value at place is free = follow_free memory storage state name member new id index value 0 at.stands place is free
 
@@ -89,7 +89,7 @@ ref_is_named (values.Ref id) target e = or_left (nat_eq target id) false (eq-eqb
 ref_is_named (values.Lazy id) target e = or_left (nat_eq target id) false (eq-eqb target id cc)
 ref_is_named (values.Refs ids) target e = absurd cc
 
-pub target_judged : (memory : Memory) (storage : Storage) (state : State) (name member new : List ℕ) (id index : ℕ) (value : Value) (target : ℕ) → StandsAt memory storage state
+pub target_judged : (memory : Memory) (storage : Storage) (state : State) (name member new : List ℕ) (id index : ℕ) (value : Value) (target : ℕ) → IsAtState memory storage state
     → IsPlace memory.registry memory.types name member id index value → Some target ≡ ref_in (Some value) → IsFree memory.registry new → nat_eq target 0 ≡ false
     → IsFollowed new target state (follow_turn state name member new)
 target_judged memory storage state name member new id index value target at place is free other = record {
@@ -104,7 +104,7 @@ target_judged memory storage state name member new id index value target at plac
 -- ---- what it comes to
 
 -- the id has an object in the state where it has one in memory
-pub as_in_memory : (memory : Memory) (storage : Storage) (state : State) (id : ℕ) (o : Option Instance) → StandsAt memory storage state → o ≡ instance_at memory.registry.instances id
+pub as_in_memory : (memory : Memory) (storage : Storage) (state : State) (id : ℕ) (o : Option Instance) → IsAtState memory storage state → o ≡ instance_at memory.registry.instances id
     → has_instance state.instances id ≡ is_some o
 as_in_memory memory storage state id o at is = ap (λ (hs : Instances). is_some (instance_at hs id)) (sym at.stands.instances) ∙ ap (λ (i : Option Instance). is_some i) (sym is)
 

@@ -16,31 +16,31 @@ use Rattle.lazy_refs.specs.Walks.{Progress, loaded_ids}
 use Rattle.lazy_refs.specs.declared.step.LoadStep.{LoadStep}
 use Rattle.lazy_refs.specs.declared.step.LoadStep.TheVariants as steps
 use Rattle.script_text.specs.Meaning.{meant}
-use Rattle.session.specs.declared.memory.Memory.{Memory}
-use Rattle.session.specs.declared.outcome.Outcome.{Outcome}
-use Rattle.session.specs.declared.outcome.Outcome.TheVariants as outcomes
-use Rattle.session.specs.declared.outcome.Phase.TheVariants as phases
-use Rattle.session.specs.declared.outcome.Purpose.{Purpose}
-use Rattle.session.specs.declared.outcome.Purpose.TheVariants as purposes
-use Rattle.session.specs.declared.refusal.Refusal.{Refusal}
-use Rattle.session.specs.declared.refusal.Refusal.TheVariants as refusals
-use Rattle.session.specs.declared.refusal.Stop.TheVariants.{Refused}
-use Rattle.session.specs.Due.{Awaits, Meets, Replied}
-use Rattle.session.specs.Limits.{most_bytes}
+use Rattle.session_lines.specs.declared.memory.Memory.{Memory}
+use Rattle.session_lines.specs.declared.outcome.Outcome.{Outcome}
+use Rattle.session_lines.specs.declared.outcome.Outcome.TheVariants as outcomes
+use Rattle.session_lines.specs.declared.outcome.Phase.TheVariants as phases
+use Rattle.session_lines.specs.declared.outcome.Purpose.{Purpose}
+use Rattle.session_lines.specs.declared.outcome.Purpose.TheVariants as purposes
+use Rattle.session_lines.specs.declared.refusal.Refusal.{Refusal}
+use Rattle.session_lines.specs.declared.refusal.Refusal.TheVariants as refusals
+use Rattle.session_lines.specs.declared.refusal.Stop.TheVariants.{Refused}
+use Rattle.session_lines.specs.Due.{Awaits, Meets, Replied}
+use Rattle.session_lines.specs.Limits.{most_bytes}
 use Rattle.session.specs.LoadSteps.{EndsBy, IsEnd, IsFailed, IsFailure, IsLast, IsLoadedFor, IsWhole, TakesAll, TakesStep}
-use Rattle.session.specs.Loads.{GoesOn, LoadsFor}
-use Rattle.session.specs.Refusals.{code_of, refused_text}
-use Rattle.session.specs.Stands.{StandsAt}
-use Rattle.session.proofs.Asks.{stands_same}
+use Rattle.session_lines.specs.Loads.{ComesAfterLoading, LoadsFor}
+use Rattle.session_lines.specs.Refusals.{code_of, refused_text}
+use Rattle.session_lines.specs.Stands.{IsAtState}
+use Rattle.session_lines.proofs.Asks.{stands_same}
 use Rattle.session.proofs.LoadWalks.{asked_is_kept, outward_may_be_held}
 use Rattle.session.proofs.LoadedStates.{load_refused, loaded_sound, stands_loaded, started_sound, to_load}
-use Rattle.session.proofs.Told.{says_refusal}
+use Rattle.session_lines.proofs.Told.{says_refusal}
 
 -- the storage as the model has it
 abbrev by_model : Storage → State → Storage
 by_model storage state = record storage { graph = state.graph; held = held_ids state.instances }
 
-same_by_model : (memory : Memory) (storage : Storage) (state : State) → StandsAt memory storage state → IsSame (by_model storage state) storage
+same_by_model : (memory : Memory) (storage : Storage) (state : State) → IsAtState memory storage state → IsSame (by_model storage state) storage
 same_by_model memory storage state at = record { others = record { graph = at.stands.graph; number = refl; next_id = refl; types = refl }; held = at.held }
 
 pub look_awaits : (is_next_type : List (List ℕ) → List ℕ → Bool) (purpose : Purpose) (loading : Progress) (id : ℕ) (memory : Memory) (storage : Storage) (turn : Turn)
@@ -71,11 +71,11 @@ look_awaits is_next_type purpose loading id memory storage turn t = record { may
     })
 
 -- the objects are in memory and held
-goes_on : (purpose : Purpose) (all : List (ℕ × Object)) (memory : Memory) (registry : Registered) (storage new : Storage) (turn : Turn) (state : State) (start : ℕ) → StandsAt memory storage state
+goes_on : (purpose : Purpose) (all : List (ℕ × Object)) (memory : Memory) (registry : Registered) (storage new : Storage) (turn : Turn) (state : State) (start : ℕ) → IsAtState memory storage state
     → LoadsFor purpose state start turn → load state.types state.pairs state.graph state.instances start ≡ Ok (put_loaded all state.instances)
     → registry.names ≡ memory.registry.names → registry.instances ≡ put_loaded all memory.registry.instances
     → OnlyHeldChanged storage new → ((x : ℕ) → has x new.held ≡ (has x (loaded_ids all) || has x storage.held))
-    → GoesOn purpose (record memory { registry = registry; started = true }) new turn
+    → ComesAfterLoading purpose (record memory { registry = registry; started = true }) new turn
 goes_on (purposes.Start command) all memory registry storage new turn state start at l loads names is others held = record {
   state = record state { instances = put_loaded all state.instances; started = true };
   stands = stands_loaded memory registry storage new state all true at refl names is (started_sound state (put_loaded all state.instances) at.stands.sound l.unstarted l.rooted from_root) others held;

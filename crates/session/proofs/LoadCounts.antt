@@ -8,23 +8,22 @@ use Rattle.graph_model.specs.Graph.{Graph, lists}
 use Rattle.graph_model.specs.declared.entity.Entity.{Entity}
 use Rattle.graph_model.specs.declared.entity.Record.{Record}
 use Rattle.type_desc.specs.declared.desc.TypeDesc.{TypeDesc}
-use Rattle.session_model.specs.Sound as model
 use Rattle.lazy_refs.specs.Advances.{IsDoneNext}
-use Rattle.lazy_refs.specs.Steps.{IsBrokenWhere}
+use Rattle.lazy_refs.specs.Steps.{IsBrokenAtAsked}
 use Rattle.lazy_refs.specs.Walks.{Progress}
 use Rattle.lazy_refs.specs.declared.step.LoadStep.{LoadStep}
 use Rattle.lazy_refs.specs.declared.step.LoadStep.TheVariants as steps
-use Rattle.session.specs.declared.outcome.Outcome.{Outcome}
-use Rattle.session.specs.declared.outcome.Phase.TheVariants as phases
-use Rattle.session.specs.declared.outcome.Purpose.{Purpose}
-use Rattle.session.specs.declared.outcome.Purpose.TheVariants as purposes
-use Rattle.session.specs.declared.refusal.Stop.{Stop}
-use Rattle.session.specs.declared.refusal.Stop.TheVariants.{Refused, NoMemory}
+use Rattle.session_lines.specs.declared.outcome.Outcome.{Outcome}
+use Rattle.session_lines.specs.declared.outcome.Phase.TheVariants as phases
+use Rattle.session_lines.specs.declared.outcome.Purpose.{Purpose}
+use Rattle.session_lines.specs.declared.outcome.Purpose.TheVariants as purposes
+use Rattle.session_lines.specs.declared.refusal.Stop.{Stop}
+use Rattle.session_lines.specs.declared.refusal.Stop.TheVariants.{Refused, NoMemory}
 use Rattle.session.specs.LoadSteps.{IsFailure, IsLast, IsWhole, last_steps, step_steps}
-use Rattle.session.specs.Refusals.{IsOutcomeOf}
-use Rattle.session.specs.Steps.{outcome_steps, phase_steps, purpose_steps, unseen}
-use Rattle.session.proofs.KnownLoaded.{right_form}
-use Rattle.session.proofs.Unseen.{unseen_less}
+use Rattle.session_lines.specs.Refusals.{IsOutcomeOf}
+use Rattle.session_lines.specs.Steps.{outcome_steps, phase_steps, purpose_steps, unseen}
+use Rattle.session_model.specs.WellFormed.{IsWellFormed}
+use Rattle.session_lines.proofs.Unseen.{unseen_less}
 
 -- ---- steps
 
@@ -89,16 +88,16 @@ if_below r g m n most h = IfOk-weaker r (λ o. outcome_steps o g ≡ m) (λ o. o
 
 -- ---- no entity is broken
 
-pub whole_first : (types : List TypeDesc) (p : Progress) (step : LoadStep) → IsBrokenWhere types p None step → IsWhole step
+pub whole_first : (types : List TypeDesc) (p : Progress) (step : LoadStep) → IsBrokenAtAsked types p None step → IsWhole step
 whole_first types p (steps.Want id) is = tt
 whole_first types p (steps.Ready all) is = tt
 whole_first types p (steps.NoType id) is = tt
 whole_first types p (steps.WrongKind id) is = tt
 whole_first types p (steps.Broken id) is = absurd is
 
-pub whole_next : (types : List TypeDesc) (x : ℕ) (p : Progress) (entity : Entity) (step : LoadStep) → model.HasForm types x entity → IsBrokenWhere types p (Some entity) step → IsWhole step
-whole_next types x p entity (steps.Want id) form is = tt
-whole_next types x p entity (steps.Ready all) form is = tt
-whole_next types x p entity (steps.NoType id) form is = tt
-whole_next types x p entity (steps.WrongKind id) form is = tt
-whole_next types x p entity (steps.Broken id) form is = is.1 (right_form types x entity form)
+pub whole_next : (types : List TypeDesc) (p : Progress) (entity : Entity) (step : LoadStep) → IsWellFormed types p.asked entity → IsBrokenAtAsked types p (Some entity) step → IsWhole step
+whole_next types p entity (steps.Want id) form is = tt
+whole_next types p entity (steps.Ready all) form is = tt
+whole_next types p entity (steps.NoType id) form is = tt
+whole_next types p entity (steps.WrongKind id) form is = tt
+whole_next types p entity (steps.Broken id) form is = is.1 form

@@ -20,12 +20,12 @@ use Rattle.object_registry.specs.Registered.{Registered, loaded, put_loaded}
 use Rattle.lazy_refs.specs.Walks.{loaded_ids}
 use Rattle.script_text.specs.Meaning.{meant}
 use Rattle.script_text.specs.declared.command.Command.{Command}
-use Rattle.session.specs.declared.memory.Memory.{Memory}
-use Rattle.session.specs.declared.outcome.Purpose.{Purpose}
-use Rattle.session.specs.declared.outcome.Purpose.TheVariants as purposes
-use Rattle.session.specs.Limits.{most_bytes}
-use Rattle.session.specs.Loads.{IsRead, LoadsFor}
-use Rattle.session.specs.Stands.{StandsAt}
+use Rattle.session_lines.specs.declared.memory.Memory.{Memory}
+use Rattle.session_lines.specs.declared.outcome.Purpose.{Purpose}
+use Rattle.session_lines.specs.declared.outcome.Purpose.TheVariants as purposes
+use Rattle.session_lines.specs.Limits.{most_bytes}
+use Rattle.session_lines.specs.Loads.{IsRead, LoadsFor}
+use Rattle.session_lines.specs.Stands.{IsAtState}
 
 -- ---- what is held
 
@@ -48,10 +48,10 @@ held_put_loaded all hs y r = held_exact (put_loaded all hs) y (rises_put_loaded 
     ∙ (saved_put_loaded all hs y ∙ ap (λ (b : Bool). has y (loaded_ids all) || b) (sym (held_exact hs y r)))
 
 -- the objects are in memory, and the storage holds their ids
-pub stands_loaded : (memory : Memory) (registry : Registered) (storage new : Storage) (state : State) (all : List (ℕ × Object)) (began : Bool) → StandsAt memory storage state → began ≡ true
+pub stands_loaded : (memory : Memory) (registry : Registered) (storage new : Storage) (state : State) (all : List (ℕ × Object)) (began : Bool) → IsAtState memory storage state → began ≡ true
     → registry.names ≡ memory.registry.names → registry.instances ≡ put_loaded all memory.registry.instances → IsSound (record state { instances = put_loaded all state.instances; started = began })
     → OnlyHeldChanged storage new → ((x : ℕ) → has x new.held ≡ (has x (loaded_ids all) || has x storage.held))
-    → StandsAt (record memory { registry = registry; started = true }) new (record state { instances = put_loaded all state.instances; started = began })
+    → IsAtState (record memory { registry = registry; started = true }) new (record state { instances = put_loaded all state.instances; started = began })
 stands_loaded memory registry storage new state all began at begins names is sound others held = record {
   stands = record {
     types = at.stands.types;

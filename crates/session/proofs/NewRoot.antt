@@ -11,9 +11,9 @@ use Rattle.session_model.specs.Loading.{load}
 use Rattle.session_model.specs.Answer.{Binding, State, command_turn, first_instances, fresh, id_in, started_turn}
 use Rattle.session_model.proofs.Starting.{begun_sound}
 use Rattle.object_registry.specs.Registered.{Registered, unsaved}
-use Rattle.session.specs.declared.memory.Memory.{Memory}
-use Rattle.session.specs.Limits.{most_bytes}
-use Rattle.session.specs.Stands.{StandsAt}
+use Rattle.session_lines.specs.declared.memory.Memory.{Memory}
+use Rattle.session_lines.specs.Limits.{most_bytes}
+use Rattle.session_lines.specs.Stands.{IsAtState}
 
 abbrev root_alone : Instances
 root_alone = put_instance 1 (fresh 1 root_desc) []
@@ -21,9 +21,9 @@ root_alone = put_instance 1 (fresh 1 root_desc) []
 root_first : (state : State) → lists state.graph 1 ≡ false → first_instances state ≡ Ok root_alone
 root_first state absent = ap (λ (b : Bool). cond b (load state.types state.pairs state.graph [] 1) (Ok root_alone)) absent
 
-pub begins_without_root : (memory : Memory) (registry : Registered) (root : Object) (storage : Storage) (state : State) → StandsAt memory storage state → state.started ≡ false → lists state.graph 1 ≡ false
+pub begins_without_root : (memory : Memory) (registry : Registered) (root : Object) (storage : Storage) (state : State) → IsAtState memory storage state → state.started ≡ false → lists state.graph 1 ≡ false
     → unsaved root ≡ fresh 1 root_desc → registry.names ≡ memory.registry.names → registry.instances ≡ put_instance 1 (unsaved root) memory.registry.instances
-    → (begun : State) × StandsAt (record memory { registry = registry; started = true }) storage begun × (begun.started ≡ true)
+    → (begun : State) × IsAtState (record memory { registry = registry; started = true }) storage begun × (begun.started ≡ true)
     × ((command : Command) → started_turn most_bytes state command (first_instances state) ≡ command_turn most_bytes begun command)
 begins_without_root memory registry root storage state at unbegun absent made names is =
     (begun, stands, refl, λ command. ap (started_turn most_bytes state command) (root_first state absent))
@@ -37,7 +37,7 @@ begins_without_root memory registry root storage state at unbegun absent made na
     instances : registry.instances ≡ root_alone
     instances = is ∙ (ap (λ (i : Instance). put_instance 1 i memory.registry.instances) made ∙ ap (put_instance 1 (fresh 1 root_desc)) (at.stands.instances ∙ none_before))
 
-    stands : StandsAt (record memory { registry = registry; started = true }) storage begun
+    stands : IsAtState (record memory { registry = registry; started = true }) storage begun
     stands = record {
       stands = record {
         types = at.stands.types;

@@ -10,7 +10,7 @@ use Rattle.refactor_table.specs.declared.name.RefName.{RefName}
 use Rattle.refactor_table.specs.declared.name.RefName.TheVariants.{OfType, OfMember}
 use Rattle.session_model.specs.Commands as cmd
 use Rattle.session_model.specs.Commands.{Command, Row, ◌>>=◌, add_line, bare_line, by_first, by_rows, command_in, command_of, cut_at, cut_line, follow_line, front_words, member_name_of, members_of, name_line, name_of, new_line, number_of, pick_line, refactor_line, refactor_of, rows, set_line, set_of, target_of, type_line, type_name_of, whole, words_of}
-use Rattle.session.specs.Loads.{HasOneForm}
+use Rattle.session_lines.specs.Loads.{HasOneForm}
 
 -- the command that is made, if one is
 abbrev MakesOneForm : Option Command → Type 0

@@ -9,15 +9,15 @@ use Rattle.script_text.specs.Faults.{IsLine}
 use Rattle.script_text.specs.Meaning.{meant}
 use Rattle.script_text.specs.declared.command.Command.{Command as ReadCommand}
 use Rattle.session.specs.Dealing.{BeginsLine}
-use Rattle.session.specs.Due.{Answers}
-use Rattle.session.specs.Limits.{most_bytes}
-use Rattle.session.specs.Loads.{IsRead}
-use Rattle.session.specs.Refusals.{refused_text}
-use Rattle.session.specs.declared.memory.Memory.{Memory}
-use Rattle.session.specs.declared.refusal.Refusal.TheVariants.{BadLine}
+use Rattle.session_lines.specs.Due.{Answers}
+use Rattle.session_lines.specs.Limits.{most_bytes}
+use Rattle.session_lines.specs.Loads.{IsRead}
+use Rattle.session_lines.specs.Refusals.{refused_text}
+use Rattle.session_lines.specs.declared.memory.Memory.{Memory}
+use Rattle.session_lines.specs.declared.refusal.Refusal.TheVariants.{BadLine}
 use Rattle.session.proofs.OneForm.{spelled_one_form}
-use Rattle.session.proofs.Lines.{refused_no_feed}
-use Rattle.session.proofs.Told.{answers_turn}
+use Rattle.session_lines.proofs.Lines.{refused_no_feed}
+use Rattle.session_lines.proofs.Told.{answers_turn}
 
 pub is_read : (text : List ℕ) (command : ReadCommand) → command_of text ≡ Some (meant command) → IsRead command
 is_read text command found = record { proper = spelled_proper text (meant command) found; one_form = spelled_one_form text (meant command) found }

@@ -9,29 +9,29 @@ use Rattle.graph_model.specs.declared.ask.Reply.TheVariants as replies
 use Rattle.graph_model.specs.declared.entity.Entity.{Entity}
 use Rattle.type_desc.specs.declared.desc.TypeDesc.{TypeDesc}
 use Rattle.session_model.specs.Answer.{Binding, id_in}
-use Rattle.lazy_refs.specs.Steps.{IsBrokenWhere, IsTypedStep}
+use Rattle.lazy_refs.specs.Steps.{IsBrokenAtAsked, IsTypedStep}
 use Rattle.lazy_refs.specs.Walks.{Progress}
 use Rattle.lazy_refs.specs.declared.step.LoadStep.{LoadStep}
 use Rattle.lazy_refs.specs.declared.step.LoadStep.TheVariants as steps
-use Rattle.session.specs.declared.exporting.ExportStep.{ExportStep}
-use Rattle.session.specs.declared.exporting.ExportStep.TheVariants as export_steps
-use Rattle.session.specs.declared.memory.Memory.{Memory}
-use Rattle.session.specs.declared.outcome.Outcome.{Outcome}
-use Rattle.session.specs.declared.outcome.Outcome.TheVariants as outcomes
-use Rattle.session.specs.declared.outcome.Phase.{Phase}
-use Rattle.session.specs.declared.outcome.Phase.TheVariants as phases
-use Rattle.session.specs.declared.outcome.Purpose.{Purpose}
-use Rattle.session.specs.declared.outcome.Purpose.TheVariants as purposes
-use Rattle.session.specs.declared.refusal.Stop.{Stop}
-use Rattle.session.specs.declared.refusal.Stop.TheVariants.{Refused, NoMemory}
-use Rattle.session.specs.Broken.{IsBrokenAt, Taken, broken_by, broken_by_export, broken_by_loading, taken_for}
-use Rattle.session.specs.Due.{SuitsPhase}
-use Rattle.session.specs.Exports.{Exported, GoesOn, IsDueNext}
+use Rattle.session_lines.specs.declared.exporting.ExportStep.{ExportStep}
+use Rattle.session_lines.specs.declared.exporting.ExportStep.TheVariants as export_steps
+use Rattle.session_lines.specs.declared.memory.Memory.{Memory}
+use Rattle.session_lines.specs.declared.outcome.Outcome.{Outcome}
+use Rattle.session_lines.specs.declared.outcome.Outcome.TheVariants as outcomes
+use Rattle.session_lines.specs.declared.outcome.Phase.{Phase}
+use Rattle.session_lines.specs.declared.outcome.Phase.TheVariants as phases
+use Rattle.session_lines.specs.declared.outcome.Purpose.{Purpose}
+use Rattle.session_lines.specs.declared.outcome.Purpose.TheVariants as purposes
+use Rattle.session_lines.specs.declared.refusal.Stop.{Stop}
+use Rattle.session_lines.specs.declared.refusal.Stop.TheVariants.{Refused, NoMemory}
+use Rattle.session_lines.specs.Broken.{IsBrokenAt, Taken, broken_by, broken_by_export, broken_by_loading, taken_for}
+use Rattle.session_lines.specs.Due.{SuitsPhase}
+use Rattle.session_lines.specs.Exports.{Exported, IsUnbrokenStep, IsDueNext}
 use Rattle.session.specs.Fitting.{IsReplyTo, TakesReply}
 use Rattle.session.specs.LoadSteps.{IsFailure, IsTypedEnd}
-use Rattle.session.specs.Refusals.{IsOutcomeOf}
-use Rattle.session.specs.Steady.{IsSteadyOutcome, IsSteadyPurpose}
-use Rattle.session.specs.Steps.{IsShort}
+use Rattle.session_lines.specs.Refusals.{IsOutcomeOf}
+use Rattle.session_lines.specs.Steady.{IsSteadyOutcome, IsSteadyPurpose}
+use Rattle.session_lines.specs.Steps.{IsShort}
 
 -- ---- the loading
 
@@ -62,14 +62,14 @@ failure_broken (steps.WrongKind id) outcome is = ap broken_by is
 failure_broken (steps.Broken id) outcome is = ap broken_by is
 
 -- without an entity none is broken
-pub none_broken_first : (types : List TypeDesc) (p : Progress) (step : LoadStep) → IsBrokenWhere types p None step → broken_by_loading step ≡ None
+pub none_broken_first : (types : List TypeDesc) (p : Progress) (step : LoadStep) → IsBrokenAtAsked types p None step → broken_by_loading step ≡ None
 none_broken_first types p (steps.Want id) is = refl
 none_broken_first types p (steps.Ready all) is = refl
 none_broken_first types p (steps.NoType id) is = refl
 none_broken_first types p (steps.WrongKind id) is = refl
 none_broken_first types p (steps.Broken id) is = absurd is
 
-pub broken_next : (types : List TypeDesc) (p : Progress) (entity : Entity) (step : LoadStep) → IsBrokenWhere types p (Some entity) step
+pub broken_next : (types : List TypeDesc) (p : Progress) (entity : Entity) (step : LoadStep) → IsBrokenAtAsked types p (Some entity) step
     → IsBrokenAt types (taken_for (Some p.asked) (Some entity)) (broken_by_loading step)
 broken_next types p entity (steps.Want id) is = is
 broken_next types p entity (steps.Ready all) is = is
@@ -79,13 +79,13 @@ broken_next types p entity (steps.Broken id) is = is
 
 -- ---- the export
 
-pub due_next : (p : Exported) (step : ExportStep) → GoesOn p step → IsDueNext p step
+pub due_next : (p : Exported) (step : ExportStep) → IsUnbrokenStep p step → IsDueNext p step
 due_next p (export_steps.Look id) on = on
 due_next p (export_steps.Line bytes) on = tt
 due_next p (export_steps.End bytes) on = tt
 due_next p (export_steps.Broken id) on = tt
 
-pub none_broken_on : (p : Exported) (step : ExportStep) → GoesOn p step → broken_by_export step ≡ None
+pub none_broken_on : (p : Exported) (step : ExportStep) → IsUnbrokenStep p step → broken_by_export step ≡ None
 none_broken_on p (export_steps.Look id) on = refl
 none_broken_on p (export_steps.Line bytes) on = refl
 none_broken_on p (export_steps.End bytes) on = refl

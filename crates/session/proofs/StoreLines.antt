@@ -24,21 +24,21 @@ use Rattle.session_model.proofs.Gathering.{IsGathered as IsWalked, eagerly, gath
 use Rattle.session_model.proofs.Holding.{held_stored}
 use Rattle.session_model.proofs.Storing.{store_line_sound}
 use Rattle.object_registry.specs.Registered.{Registered}
-use Rattle.session.specs.declared.memory.Memory.{Memory}
-use Rattle.session.specs.declared.outcome.Phase.TheVariants as phases
-use Rattle.session.specs.declared.refusal.Stop.{Stop}
-use Rattle.session.specs.declared.refusal.Stop.TheVariants.{Refused, NoMemory}
-use Rattle.session.specs.declared.refusal.Refusal.TheVariants as refusals
+use Rattle.session_lines.specs.declared.memory.Memory.{Memory}
+use Rattle.session_lines.specs.declared.outcome.Phase.TheVariants as phases
+use Rattle.session_lines.specs.declared.refusal.Stop.{Stop}
+use Rattle.session_lines.specs.declared.refusal.Stop.TheVariants.{Refused, NoMemory}
+use Rattle.session_lines.specs.declared.refusal.Refusal.TheVariants as refusals
 use Rattle.session.specs.declared.storing.Storer.{Storer}
 use Rattle.session.specs.declared.storing.Storer.TheVariants.{Lazy, Eager}
-use Rattle.session.specs.Due.{Awaits, Replied, stored_text, without}
-use Rattle.session.specs.Limits.{most_bytes}
-use Rattle.session.specs.Refusals.{IsRefusal}
-use Rattle.session.specs.Stands.{Stands, StandsAt}
+use Rattle.session_lines.specs.Due.{Awaits, Replied, stored_text, without}
+use Rattle.session_lines.specs.Limits.{most_bytes}
+use Rattle.session_lines.specs.Refusals.{IsRefusal}
+use Rattle.session_lines.specs.Stands.{Stands, IsAtState}
 use Rattle.session.specs.StoreAsks.{Gathers, IsGathered, gathered_by}
-use Rattle.session.proofs.Judged.{judged_first, judged_next}
-use Rattle.session.proofs.Lines.{stored_no_feed}
-use Rattle.session.proofs.Told.{answers_turn}
+use Rattle.session_lines.proofs.Judged.{judged_first, judged_next}
+use Rattle.session_lines.proofs.Lines.{stored_no_feed}
+use Rattle.session_lines.proofs.Told.{answers_turn}
 
 -- ---- what was gathered is saved
 
@@ -97,7 +97,7 @@ same_records storer memory storage state name start s named =
 is_bound_by : (memory : Memory) (storage : Storage) (state : State) (name : List ℕ) (start : ℕ) → Stands memory storage state → id_in memory.registry.names name ≡ Some start → not (is_bound state name) ≡ false
 is_bound_by memory storage state name start s named = ap (λ (o : Option ℕ). not (is_some o)) (sym (s.names name) ∙ named)
 
-pub gathered_refusal : (storer : Storer) (memory : Memory) (storage : Storage) (state : State) (name : List ℕ) (stop : Stop) → StandsAt memory storage state → IsGathered storer memory name (Err stop)
+pub gathered_refusal : (storer : Storer) (memory : Memory) (storage : Storage) (state : State) (name : List ℕ) (stop : Stop) → IsAtState memory storage state → IsGathered storer memory name (Err stop)
     → IsRefusal state (store_turn most_bytes state name (gathered_by storer)) stop
 gathered_refusal storer memory storage state name (Refused refusals.NoName) at none =
     judged_first state (no_name (not (is_bound state name))) (too_big (are_too_big most_bytes (records_in storer state name)) ∷ []) (effect storer state name)
@@ -132,7 +132,7 @@ record IsDueStore (storer : Storer) (state : State) (name : List ℕ) (op : Stor
 abbrev made_op : List Record → ℕ → StoreOp
 made_op records next_id = record { records = records; next_id = next_id }
 
-due_store : (storer : Storer) (memory : Memory) (storage : Storage) (state : State) (name : List ℕ) (op : StoreOp) → StandsAt memory storage state → state.started ≡ true → Gathers storer memory name op
+due_store : (storer : Storer) (memory : Memory) (storage : Storage) (state : State) (name : List ℕ) (op : StoreOp) → IsAtState memory storage state → state.started ≡ true → Gathers storer memory name op
     → IsDueStore storer state name op
 due_store storer memory storage state name op at started g = record {
   records = records;
@@ -158,7 +158,7 @@ due_store storer memory storage state name op at started g = record {
 
 -- ---- the ask
 
-may_store : (is_next_type : List (List ℕ) → List ℕ → Bool) (storer : Storer) (memory : Memory) (storage : Storage) (state : State) (name : List ℕ) (op : StoreOp) → StandsAt memory storage state
+may_store : (is_next_type : List (List ℕ) → List ℕ → Bool) (storer : Storer) (memory : Memory) (storage : Storage) (state : State) (name : List ℕ) (op : StoreOp) → IsAtState memory storage state
     → IsDueStore storer state name op → MayStore storage op
 may_store is_next_type storer memory storage state name op at d = ask_stays_allowed is_next_type by_model storage (asks.Store op) same may
   where
@@ -176,9 +176,9 @@ may_store is_next_type storer memory storage state name op at d = ask_stays_allo
     }
 
 -- where the storage made the store, both stand at the state after it
-stands_stored : (storer : Storer) (memory : Memory) (registry : Registered) (storage new : Storage) (state : State) (name : List ℕ) (op : StoreOp) (reply : Reply) → StandsAt memory storage state → state.started ≡ true
+stands_stored : (storer : Storer) (memory : Memory) (registry : Registered) (storage new : Storage) (state : State) (name : List ℕ) (op : StoreOp) (reply : Reply) → IsAtState memory storage state → state.started ≡ true
     → IsDueStore storer state name op → op.next_id ≡ memory.next_id → registry.names ≡ memory.registry.names → registry.instances ≡ saved_instances memory.registry.instances (ids op.records)
-    → Stores storage op reply new → StandsAt (record memory { registry = registry }) new (stored state (gathered_in storer state name) op).state
+    → Stores storage op reply new → IsAtState (record memory { registry = registry }) new (stored state (gathered_in storer state name) op).state
 stands_stored storer memory registry storage new state name op reply at started d next names saved served = record {
   stands = record {
     types = at.stands.types;
@@ -203,7 +203,7 @@ stands_stored storer memory registry storage new state name op reply at started 
         ∙ (ap (λ (rs : List Record). saved_instances state.instances (ids rs)) d.records ∙ saved_gathered state.instances (gathered_in storer state name)))
 
 pub store_awaits : (is_next_type : List (List ℕ) → List ℕ → Bool) (storer : Storer) (memory : Memory) (registry : Registered) (op : StoreOp) (count : ℕ) (name : List ℕ) (storage : Storage) (state : State)
-    → Gathers storer memory name op → StandsAt memory storage state → state.started ≡ true
+    → Gathers storer memory name op → IsAtState memory storage state → state.started ≡ true
     → registry.names ≡ memory.registry.names → registry.instances ≡ saved_instances memory.registry.instances (ids op.records) → count ≡ length op.records
     → Awaits is_next_type (asks.Store op) (phases.Storing count) (record memory { registry = registry }) storage (store_turn most_bytes state name (gathered_by storer))
 store_awaits is_next_type storer memory registry op count name storage state g at started names saved counted =

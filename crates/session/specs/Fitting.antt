@@ -4,14 +4,14 @@ use Rattle.graph_model.specs.declared.ask.Ask.{Ask}
 use Rattle.graph_model.specs.declared.ask.Ask.TheVariants as asks
 use Rattle.graph_model.specs.declared.ask.Reply.{Reply}
 use Rattle.graph_model.specs.declared.ask.Reply.TheVariants as replies
-use Rattle.session.specs.declared.outcome.Phase.{Phase}
-use Rattle.session.specs.declared.outcome.Phase.TheVariants as phases
-use Rattle.session.specs.declared.outcome.Waiting.{Waiting}
-use Rattle.session.specs.declared.outcome.Waiting.TheVariants as waits
+use Rattle.session_lines.specs.declared.outcome.Phase.{Phase}
+use Rattle.session_lines.specs.declared.outcome.Phase.TheVariants as phases
+use Rattle.session_lines.specs.declared.outcome.Waiting.{Waiting}
+use Rattle.session_lines.specs.declared.outcome.Waiting.TheVariants as waits
 use Rattle.session.specs.declared.session.Given.{Given}
 use Rattle.session.specs.declared.session.Given.TheVariants as given
-use Rattle.session.specs.declared.session.Turn.{Turn as Step}
-use Rattle.session.specs.declared.session.Turn.TheVariants as step
+use Rattle.session.specs.declared.session.SessionStep.{SessionStep as Step}
+use Rattle.session.specs.declared.session.SessionStep.TheVariants as step
 
 -- the reply is one to this ask
 abbrev pub IsReplyTo : Ask → Reply → Type 0

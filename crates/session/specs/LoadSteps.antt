@@ -13,22 +13,22 @@ use Rattle.lazy_refs.specs.Steps.{IsReady, IsStep}
 use Rattle.lazy_refs.specs.Walks.{Progress}
 use Rattle.lazy_refs.specs.declared.step.LoadStep.{LoadStep}
 use Rattle.lazy_refs.specs.declared.step.LoadStep.TheVariants as steps
-use Rattle.session.specs.declared.memory.Memory.{Memory}
-use Rattle.session.specs.declared.outcome.Outcome.{Outcome}
-use Rattle.session.specs.declared.outcome.Outcome.TheVariants as outcomes
-use Rattle.session.specs.declared.outcome.Phase.TheVariants as phases
-use Rattle.session.specs.declared.outcome.Purpose.{Purpose}
-use Rattle.session.specs.declared.refusal.Refusal.TheVariants.{NoType, WrongKind}
-use Rattle.session.specs.declared.refusal.Stop.{Stop}
-use Rattle.session.specs.Loads.{LoadsFor}
-use Rattle.session.specs.Refusals.{IsRefusal, refused_text}
-use Rattle.session.specs.Stands.{StandsAt}
-use Rattle.session.specs.Steps.{phase_steps, purpose_steps}
+use Rattle.session_lines.specs.declared.memory.Memory.{Memory}
+use Rattle.session_lines.specs.declared.outcome.Outcome.{Outcome}
+use Rattle.session_lines.specs.declared.outcome.Outcome.TheVariants as outcomes
+use Rattle.session_lines.specs.declared.outcome.Phase.TheVariants as phases
+use Rattle.session_lines.specs.declared.outcome.Purpose.{Purpose}
+use Rattle.session_lines.specs.declared.refusal.Refusal.TheVariants.{NoType, WrongKind}
+use Rattle.session_lines.specs.declared.refusal.Stop.{Stop}
+use Rattle.session_lines.specs.Loads.{LoadsFor}
+use Rattle.session_lines.specs.Refusals.{IsRefusal, refused_text}
+use Rattle.session_lines.specs.Stands.{IsAtState}
+use Rattle.session_lines.specs.Steps.{phase_steps, purpose_steps}
 
 -- a start is loaded for the purpose, at a state of the model
 pub record IsLoadedFor (purpose : Purpose) (memory : Memory) (storage : Storage) (turn : Turn) : Type 0 where
   pub state : State
-  pub stands : StandsAt memory storage state
+  pub stands : IsAtState memory storage state
   pub start : ℕ
   pub loads : LoadsFor purpose state start turn
 

@@ -3,13 +3,13 @@ use Rattle.std.specs.Prelude.{◌≡◌, ℕ, true, false, Some, None, Result, O
 use Rattle.graph_model.specs.declared.entity.StoreOp.{StoreOp}
 use Rattle.session_model.specs.Instances.{Instances, gathered_eagerly, gathered_lazily}
 use Rattle.session_model.specs.Answer.{are_too_big, gathered_records, id_in}
-use Rattle.session.specs.declared.memory.Memory.{Memory}
-use Rattle.session.specs.declared.refusal.Stop.{Stop}
-use Rattle.session.specs.declared.refusal.Stop.TheVariants.{Refused, NoMemory}
-use Rattle.session.specs.declared.refusal.Refusal.TheVariants.{NoName, TooBig}
+use Rattle.session_lines.specs.declared.memory.Memory.{Memory}
+use Rattle.session_lines.specs.declared.refusal.Stop.{Stop}
+use Rattle.session_lines.specs.declared.refusal.Stop.TheVariants.{Refused, NoMemory}
+use Rattle.session_lines.specs.declared.refusal.Refusal.TheVariants.{NoName, TooBig}
 use Rattle.session.specs.declared.storing.Storer.{Storer}
 use Rattle.session.specs.declared.storing.Storer.TheVariants.{Lazy, Eager}
-use Rattle.session.specs.Limits.{most_bytes}
+use Rattle.session_lines.specs.Limits.{most_bytes}
 
 -- the ids that are gathered from a start
 abbrev pub gathered_by : Storer → Instances → ℕ → List ℕ

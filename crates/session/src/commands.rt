@@ -2,30 +2,25 @@
 
 ghost use Rattle.std.specs.Prelude.{◌≡◌, ◌<◌, ◌+◌, ◌*◌, ◌&&◌, not, ℕ, Bool, List, true, Some, None, length, IfOk, OnOk};
 ghost use Rattle.graph_model.specs.Served.{Storage};
-ghost use Rattle.graph_model.specs.declared.ask.Ask.{Ask as AnyAsk};
 ghost use Rattle.session_model.specs.Answer.{State, command_turn, needs_start, turn_of};
 ghost use Rattle.script_text.specs.Meaning.{meant};
-ghost use Rattle.session_model.specs.Commands.{Collect, Tidy};
-ghost use Rattle.session.specs.Broken.{broken_by};
-ghost use Rattle.session.specs.Stands.{Admits, StandsAt};
-ghost use Rattle.session.specs.Steady.{IsAskOf, IsSteadyOutcome, KnowsObjects};
-ghost use Rattle.session.specs.Due.{Meets};
-ghost use Rattle.session.specs.Limits.{most_bytes};
-ghost use Rattle.session.specs.Loads.{IsRead};
-ghost use Rattle.session.specs.Steps.{outcome_steps};
+ghost use Rattle.session_lines.specs.Broken.{broken_by};
+ghost use Rattle.session_lines.specs.Stands.{Admits, IsAtState};
+ghost use Rattle.session_lines.specs.Steady.{IsSteadyOutcome, KnowsObjects};
+ghost use Rattle.session_lines.specs.Due.{Meets};
+ghost use Rattle.session_lines.specs.Limits.{most_bytes};
+ghost use Rattle.session_lines.specs.Loads.{IsRead};
+ghost use Rattle.session_lines.specs.Steps.{outcome_steps};
 
-use crate::changing::{add_to, cut_from, set_member, set_root};
-use crate::declaring::declare_type;
 use crate::export_line::export;
 use crate::loading::{follow, load_root, make_root};
-use crate::memory::Memory;
-use crate::naming::{drop_name, home, new, pick};
-use crate::outcome::Outcome;
-use crate::refactoring::refactor;
 use crate::storing::{store, store_all};
-use crate::telling::{collect, forget, show, tidy};
 use graph_model::NoMemory;
 use script_text::Command;
+use session_lines::{
+    Memory, Outcome, add_to, collect, cut_from, declare_type, drop_name, forget, home, new, pick,
+    refactor, set_member, set_root, show, tidy,
+};
 
 /// Carries out a command, once the script has begun where the command needs that.
 pub fn carry_out(memory: &mut Memory, command: Command) -> Result<Outcome, NoMemory>
@@ -34,11 +29,9 @@ pub fn carry_out(memory: &mut Memory, command: Command) -> Result<Outcome, NoMem
     ensures known { OnOk result (KnowsObjects memory.new) }
     ensures steady { IfOk result (IsSteadyOutcome memory.new) }
     ensures whole { IfOk result (λ outcome. broken_by outcome ≡ None) }
-    ensures tidies { meant command ≡ Tidy → IfOk result (IsAskOf AnyAsk.Tidy) }
-    ensures collects { meant command ≡ Collect → IfOk result (IsAskOf AnyAsk.Collect) }
-    ensures meets { (is_next_type : List (List ℕ) → List ℕ → Bool) (storage : Storage) (state : State) → Admits is_next_type → StandsAt memory.old storage state
+    ensures meets { (is_next_type : List (List ℕ) → List ℕ → Bool) (storage : Storage) (state : State) → Admits is_next_type → IsAtState memory.old storage state
         → (needs_start (meant command) ≡ true → state.started ≡ true) → IfOk result (λ outcome. Meets is_next_type outcome memory.new storage (command_turn most_bytes state (meant command))) }
-    ensures few { (storage : Storage) (state : State) → StandsAt memory.old storage state → IfOk result (λ outcome. outcome_steps outcome storage.graph < 4 * length storage.graph + 4) }
+    ensures few { (storage : Storage) (state : State) → IsAtState memory.old storage state → IfOk result (λ outcome. outcome_steps outcome storage.graph < 4 * length storage.graph + 4) }
 {
     match command {
         Command::DeclareType(desc) => declare_type(memory, &desc),
@@ -99,9 +92,7 @@ pub fn take_command(memory: &mut Memory, command: Command) -> Result<Outcome, No
     ensures known { OnOk result (KnowsObjects memory.new) }
     ensures steady { IfOk result (IsSteadyOutcome memory.new) }
     ensures whole { IfOk result (λ outcome. broken_by outcome ≡ None) }
-    ensures tidies { meant command ≡ Tidy → memory.old.started ≡ true → IfOk result (IsAskOf AnyAsk.Tidy) }
-    ensures collects { meant command ≡ Collect → memory.old.started ≡ true → IfOk result (IsAskOf AnyAsk.Collect) }
-    ensures meets { (is_next_type : List (List ℕ) → List ℕ → Bool) (storage : Storage) (state : State) → Admits is_next_type → StandsAt memory.old storage state
+    ensures meets { (is_next_type : List (List ℕ) → List ℕ → Bool) (storage : Storage) (state : State) → Admits is_next_type → IsAtState memory.old storage state
         → IfOk result (λ outcome. Meets is_next_type outcome memory.new storage (turn_of most_bytes state (Some (meant command)))) }
 {
     if !must_begin(memory, &command) {

@@ -4,23 +4,21 @@ ghost use Rattle.std.specs.Prelude.{◌≡◌, ◌≤◌, ◌<◌, ◌+◌, ◌*
 ghost use Rattle.graph_model.specs.Graph.{Graph, lists};
 ghost use Rattle.graph_model.specs.Served.{Storage};
 ghost use Rattle.session_model.specs.Answer.{State, Turn, export_turn};
-ghost use Rattle.session.specs.Stands.{StandsAt};
-ghost use Rattle.session.specs.Broken.{IsBrokenAt, broken_by, broken_by_export, taken_for};
-ghost use Rattle.session.specs.Due.{Meets};
-ghost use Rattle.session.specs.ExportEnds.{IsRestBehind, steps_behind};
-ghost use Rattle.session.specs.Exports.{IsDueNext, IsExportStep, IsTellingFor, TellsEntity};
-ghost use Rattle.session.specs.Steady.{IsSteadyOutcome};
-ghost use Rattle.session.specs.declared.memory.Memory.{Memory as AnyMemory};
-ghost use Rattle.session.specs.Steps.{export_steps, outcome_steps};
+ghost use Rattle.session_lines.specs.Stands.{IsAtState};
+ghost use Rattle.session_lines.specs.Broken.{IsBrokenAt, broken_by, broken_by_export, taken_for};
+ghost use Rattle.session_lines.specs.Due.{Meets};
+ghost use Rattle.session_lines.specs.ExportEnds.{IsRestBehind, steps_behind};
+ghost use Rattle.session_lines.specs.Exports.{IsDueNext, IsExportStep, IsTellingFor, TellsEntity};
+ghost use Rattle.session_lines.specs.Steady.{IsSteadyOutcome};
+ghost use Rattle.session_lines.specs.declared.memory.Memory.{Memory as AnyMemory};
+ghost use Rattle.session_lines.specs.Steps.{export_steps, outcome_steps};
 
-use crate::exporting::{Export, ExportStep, ROOT_ID};
-use crate::memory::Memory;
-use crate::outcome::{Outcome, Phase};
 use graph_model::{Ask, Entity, NoMemory};
+use session_lines::{Export, ExportStep, Memory, Outcome, Phase, ROOT_ID};
 
 /// Whether the graph has the root, once the script has begun.
 fn has_root(memory: &Memory) -> bool
-    ensures { (storage : Storage) (state : State) → StandsAt memory.now storage state → state.started ≡ true → result ≡ lists state.graph 1 }
+    ensures { (storage : Storage) (state : State) → IsAtState memory.now storage state → state.started ≡ true → result ≡ lists state.graph 1 }
 {
     match memory.registry.copy(ROOT_ID) {
         Some(root) => root.is_saved(),
@@ -46,7 +44,7 @@ fn outcome_of_step(step: ExportStep, export: Export) -> Outcome
 
 /// `export`: each entity that the root reaches, as it is stored, as a line of JSON.
 pub fn export(memory: &Memory) -> Result<Outcome, NoMemory>
-    ensures meets { (is_next_type : List (List ℕ) → List ℕ → Bool) (storage : Storage) (state : State) → StandsAt memory.now storage state → state.started ≡ true
+    ensures meets { (is_next_type : List (List ℕ) → List ℕ → Bool) (storage : Storage) (state : State) → IsAtState memory.now storage state → state.started ≡ true
         → IfOk result (λ outcome. Meets is_next_type outcome memory.now storage (export_turn state)) }
     ensures steady { IfOk result (IsSteadyOutcome memory.now) }
     ensures whole { IfOk result (λ outcome. broken_by outcome ≡ None) }

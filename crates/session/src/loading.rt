@@ -12,28 +12,26 @@ ghost use Rattle.session_model.specs.Commands.{Command as AnyCommand};
 ghost use Rattle.session_model.specs.Sound.{IsSound};
 ghost use Rattle.script_text.specs.Meaning.{meant};
 ghost use Rattle.storer.specs.Gathered.{IsKnown};
-ghost use Rattle.session.specs.Stands.{StandsAt};
-ghost use Rattle.session.specs.Broken.{IsBrokenAt, broken_by, broken_by_loading, taken_for};
-ghost use Rattle.session.specs.Due.{Meets};
-ghost use Rattle.session.specs.Limits.{most_bytes};
+ghost use Rattle.session_lines.specs.Stands.{IsAtState};
+ghost use Rattle.session_lines.specs.Broken.{IsBrokenAt, broken_by, broken_by_loading, taken_for};
+ghost use Rattle.session_lines.specs.Due.{Meets};
+ghost use Rattle.session_lines.specs.Limits.{most_bytes};
 ghost use Rattle.session.specs.LoadSteps.{EndsBy, IsFailed, IsFailure, IsFollowed, IsFollowing, IsLast, IsTypedEnd, TakesAll, TakesStep, last_steps, step_steps};
-ghost use Rattle.session.specs.Loads.{GoesOnFollow, IsRead, LoadsFor, TakesEntity};
-ghost use Rattle.session.specs.Namings.{IsUnbound};
-ghost use Rattle.session.specs.Steady.{IsSteadyLoading, IsSteadyOutcome, IsSteadyPurpose, IsSteadyStep, KnowsObjects};
-ghost use Rattle.session.specs.Steps.{outcome_steps, phase_steps, purpose_steps};
-ghost use Rattle.session.specs.declared.outcome.Phase.{Phase as AnyPhase};
+ghost use Rattle.session_lines.specs.Loads.{ComesAfterFollow, IsRead, LoadsFor, TakesEntity};
+ghost use Rattle.session_lines.specs.Namings.{IsUnbound};
+ghost use Rattle.session_lines.specs.Steady.{IsSteadyLoading, IsSteadyOutcome, IsSteadyPurpose, IsSteadyStep, KnowsObjects};
+ghost use Rattle.session_lines.specs.Steps.{outcome_steps, phase_steps, purpose_steps};
+ghost use Rattle.session_lines.specs.declared.outcome.Phase.{Phase as AnyPhase};
 
-use crate::answers::outcome_of;
-use crate::memory::Memory;
-use crate::naming::bind_found;
-use crate::outcome::{Outcome, Phase, Purpose};
-use crate::places::{may_bind, place_of, ref_in};
-use crate::refusal::{Refusal, Stop};
 use entity_form::{Object, default_object};
 use graph_model::{Ask, Entity, Ids, NoMemory};
 use lazy_refs::{LoadStep, Loading};
 use object_registry::Loaded;
 use script_text::Command;
+use session_lines::{
+    Memory, Outcome, Phase, Purpose, Refusal, Stop, bind_found, may_bind, outcome_of, place_of,
+    ref_in,
+};
 use std::alloc::Global;
 use type_desc::Text;
 
@@ -127,7 +125,7 @@ fn begin(memory: &mut Memory, id: u64, purpose: Purpose) -> Result<Outcome, NoMe
     ensures known { OnOk result (KnowsObjects memory.new) }
     ensures steady { IfOk result (IsSteadyOutcome memory.new) }
     ensures whole { IfOk result (λ outcome. broken_by outcome ≡ None) }
-    ensures meets { (is_next_type : List (List ℕ) → List ℕ → Bool) (storage : Storage) (state : State) (due : Turn) → StandsAt memory.old storage state → LoadsFor purpose state id due
+    ensures meets { (is_next_type : List (List ℕ) → List ℕ → Bool) (storage : Storage) (state : State) (due : Turn) → IsAtState memory.old storage state → LoadsFor purpose state id due
         → IfOk result (λ outcome. Meets is_next_type outcome memory.new storage due) }
     ensures few { (g : Graph) → IfOk result (λ outcome. outcome_steps outcome g ≤ length g + purpose_steps purpose g + 1) }
 {
@@ -143,7 +141,7 @@ pub fn load_root(memory: &mut Memory, command: Command) -> Result<Outcome, NoMem
     ensures known { OnOk result (KnowsObjects memory.new) }
     ensures steady { IfOk result (IsSteadyOutcome memory.new) }
     ensures whole { IfOk result (λ outcome. broken_by outcome ≡ None) }
-    ensures meets { (is_next_type : List (List ℕ) → List ℕ → Bool) (storage : Storage) (state : State) → StandsAt memory.old storage state → state.started ≡ false
+    ensures meets { (is_next_type : List (List ℕ) → List ℕ → Bool) (storage : Storage) (state : State) → IsAtState memory.old storage state → state.started ≡ false
         → lists state.graph 1 ≡ true → IfOk result (λ outcome. Meets is_next_type outcome memory.new storage (started_turn most_bytes state (meant command) (first_instances state))) }
 {
     begin(memory, 1, Purpose::Start(command))
@@ -164,8 +162,8 @@ fn root_object(memory: &Memory) -> Result<Object, NoMemory>
 pub fn make_root(memory: &mut Memory) -> Result<(), NoMemory>
     requires { KnowsObjects memory.old }
     ensures known { OnOk result (KnowsObjects memory.new) }
-    ensures stands { (storage : Storage) (state : State) → StandsAt memory.old storage state → state.started ≡ false → lists state.graph 1 ≡ false
-        → OnOk result ((begun : State) × StandsAt memory.new storage begun × (begun.started ≡ true)
+    ensures stands { (storage : Storage) (state : State) → IsAtState memory.old storage state → state.started ≡ false → lists state.graph 1 ≡ false
+        → OnOk result ((begun : State) × IsAtState memory.new storage begun × (begun.started ≡ true)
         × ((command : AnyCommand) → started_turn most_bytes state command (first_instances state) ≡ command_turn most_bytes begun command)) }
 {
     let root = root_object(memory)?;
@@ -199,7 +197,7 @@ pub fn load_on(
 /// The id that the member names, where the new name may be bound to it.
 fn follow_id(memory: &Memory, name: &Text, member: &Text, new: &Text) -> Result<u64, Stop>
     ensures free { IfOk result (λ _. IsUnbound memory.now.registry new.now) }
-    ensures judged { (storage : Storage) (state : State) → StandsAt memory.now storage state → state.started ≡ true
+    ensures judged { (storage : Storage) (state : State) → IsAtState memory.now storage state → state.started ≡ true
         → IsFollowing new.now result state (follow_turn state name.now member.now new.now) }
 {
     let place = place_of(memory, name, member)?;
@@ -220,7 +218,7 @@ fn bind_or_load(memory: &mut Memory, new: Text, id: u64) -> Result<Outcome, NoMe
     ensures known { OnOk result (KnowsObjects memory.new) }
     ensures steady { IfOk result (IsSteadyOutcome memory.new) }
     ensures whole { IfOk result (λ outcome. broken_by outcome ≡ None) }
-    ensures meets { (is_next_type : List (List ℕ) → List ℕ → Bool) (storage : Storage) (state : State) (due : Turn) → StandsAt memory.old storage state → state.started ≡ true
+    ensures meets { (is_next_type : List (List ℕ) → List ℕ → Bool) (storage : Storage) (state : State) (due : Turn) → IsAtState memory.old storage state → state.started ≡ true
         → IsFollowed new id state due → IsSound due.state → IfOk result (λ outcome. Meets is_next_type outcome memory.new storage due) }
     ensures few { (g : Graph) → IfOk result (λ outcome. outcome_steps outcome g ≤ length g + 3) }
 {
@@ -244,9 +242,9 @@ pub fn follow(
     ensures known { OnOk result (KnowsObjects memory.new) }
     ensures steady { IfOk result (IsSteadyOutcome memory.new) }
     ensures whole { IfOk result (λ outcome. broken_by outcome ≡ None) }
-    ensures meets { (is_next_type : List (List ℕ) → List ℕ → Bool) (storage : Storage) (state : State) → StandsAt memory.old storage state → state.started ≡ true
+    ensures meets { (is_next_type : List (List ℕ) → List ℕ → Bool) (storage : Storage) (state : State) → IsAtState memory.old storage state → state.started ≡ true
         → IfOk result (λ outcome. Meets is_next_type outcome memory.new storage (follow_turn state name.now member.now new)) }
-    ensures few { (storage : Storage) (state : State) → StandsAt memory.old storage state → IfOk result (λ outcome. outcome_steps outcome storage.graph ≤ length storage.graph + 3) }
+    ensures few { (storage : Storage) (state : State) → IsAtState memory.old storage state → IfOk result (λ outcome. outcome_steps outcome storage.graph ≤ length storage.graph + 3) }
 {
     match follow_id(memory, name, member, &new) {
         Ok(id) => bind_or_load(memory, new, id),
@@ -261,7 +259,7 @@ pub fn bind_loaded(memory: &mut Memory, new: &Text, id: u64) -> Result<Outcome, 
     ensures known { OnOk result (KnowsObjects memory.new) }
     ensures steady { IfOk result (IsSteadyOutcome memory.new) }
     ensures whole { IfOk result (λ outcome. broken_by outcome ≡ None) }
-    ensures meets { (is_next_type : List (List ℕ) → List ℕ → Bool) (storage : Storage) (due : Turn) → GoesOnFollow new.now id memory.old storage due
+    ensures meets { (is_next_type : List (List ℕ) → List ℕ → Bool) (storage : Storage) (due : Turn) → ComesAfterFollow new.now id memory.old storage due
         → IfOk result (λ outcome. Meets is_next_type outcome memory.new storage due) }
     ensures short { IfOk result (λ outcome. (g : Graph) → outcome_steps outcome g < 2) }
 {

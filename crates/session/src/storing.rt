@@ -6,19 +6,16 @@ ghost use Rattle.graph_model.specs.Served.{Storage};
 ghost use Rattle.session_model.specs.Answer.{State, are_too_big, gathered_records, store_turn};
 ghost use Rattle.session_model.specs.Instances.{gathered_eagerly, gathered_lazily};
 ghost use Rattle.storer.specs.Faults.{IsRefused};
-ghost use Rattle.session.specs.Stands.{StandsAt};
-ghost use Rattle.session.specs.Due.{Meets};
-ghost use Rattle.session.specs.Steady.{IsSteadyOutcome, KnowsObjects};
-ghost use Rattle.session.specs.Steps.{IsShort};
-ghost use Rattle.session.specs.Limits.{most_bytes};
+ghost use Rattle.session_lines.specs.Stands.{IsAtState};
+ghost use Rattle.session_lines.specs.Due.{Meets};
+ghost use Rattle.session_lines.specs.Steady.{IsSteadyOutcome, KnowsObjects};
+ghost use Rattle.session_lines.specs.Steps.{IsShort};
+ghost use Rattle.session_lines.specs.Limits.{most_bytes};
 ghost use Rattle.session.specs.StoreAsks.{Gathers, IsGathered, gathered_by};
 ghost use Rattle.session.specs.declared.storing.Storer.{Storer as AnyStorer};
 
-use crate::answers::outcome_of;
-use crate::memory::Memory;
-use crate::outcome::{Outcome, Phase};
-use crate::refusal::{Refusal, Stop};
 use graph_model::{Ask, Ids, NoMemory, Record, StoreOp};
+use session_lines::{Memory, Outcome, Phase, Refusal, Stop, outcome_of};
 use std::alloc::Global;
 use storer::{GatherFault, gather_eager, gather_lazy};
 use type_desc::Text;
@@ -94,7 +91,7 @@ fn ask_to_store(memory: &mut Memory, op: StoreOp) -> Result<Outcome, NoMemory>
     ensures known { KnowsObjects memory.old → KnowsObjects memory.new }
     ensures steady { IfOk result (IsSteadyOutcome memory.new) }
     ensures meets { (is_next_type : List (List ℕ) → List ℕ → Bool) (storer : AnyStorer) (name : List ℕ) (storage : Storage) (state : State) → Gathers storer memory.old name op
-        → StandsAt memory.old storage state → state.started ≡ true → IfOk result (λ outcome. Meets is_next_type outcome memory.new storage (store_turn most_bytes state name (gathered_by storer))) }
+        → IsAtState memory.old storage state → state.started ≡ true → IfOk result (λ outcome. Meets is_next_type outcome memory.new storage (store_turn most_bytes state name (gathered_by storer))) }
     ensures short { IfOk result IsShort }
 {
     let all = ids_of(memory.alloc, op.records.as_slice())?;
@@ -107,7 +104,7 @@ fn store_by(memory: &mut Memory, name: &Text, storer: Storer) -> Result<Outcome,
     requires known { KnowsObjects memory.old }
     ensures known { OnOk result (KnowsObjects memory.new) }
     ensures steady { IfOk result (IsSteadyOutcome memory.new) }
-    ensures meets { (is_next_type : List (List ℕ) → List ℕ → Bool) (storage : Storage) (state : State) → StandsAt memory.old storage state → state.started ≡ true
+    ensures meets { (is_next_type : List (List ℕ) → List ℕ → Bool) (storage : Storage) (state : State) → IsAtState memory.old storage state → state.started ≡ true
         → IfOk result (λ outcome. Meets is_next_type outcome memory.new storage (store_turn most_bytes state name.now (gathered_by storer))) }
     ensures short { IfOk result IsShort }
 {
@@ -122,7 +119,7 @@ pub fn store(memory: &mut Memory, name: &Text) -> Result<Outcome, NoMemory>
     requires known { KnowsObjects memory.old }
     ensures known { OnOk result (KnowsObjects memory.new) }
     ensures steady { IfOk result (IsSteadyOutcome memory.new) }
-    ensures meets { (is_next_type : List (List ℕ) → List ℕ → Bool) (storage : Storage) (state : State) → StandsAt memory.old storage state → state.started ≡ true
+    ensures meets { (is_next_type : List (List ℕ) → List ℕ → Bool) (storage : Storage) (state : State) → IsAtState memory.old storage state → state.started ≡ true
         → IfOk result (λ outcome. Meets is_next_type outcome memory.new storage (store_turn most_bytes state name.now gathered_lazily)) }
     ensures short { IfOk result IsShort }
 {
@@ -134,7 +131,7 @@ pub fn store_all(memory: &mut Memory, name: &Text) -> Result<Outcome, NoMemory>
     requires known { KnowsObjects memory.old }
     ensures known { OnOk result (KnowsObjects memory.new) }
     ensures steady { IfOk result (IsSteadyOutcome memory.new) }
-    ensures meets { (is_next_type : List (List ℕ) → List ℕ → Bool) (storage : Storage) (state : State) → StandsAt memory.old storage state → state.started ≡ true
+    ensures meets { (is_next_type : List (List ℕ) → List ℕ → Bool) (storage : Storage) (state : State) → IsAtState memory.old storage state → state.started ≡ true
         → IfOk result (λ outcome. Meets is_next_type outcome memory.new storage (store_turn most_bytes state name.now gathered_eagerly)) }
     ensures short { IfOk result IsShort }
 {

@@ -3,31 +3,27 @@
 ghost use Rattle.std.specs.Prelude.{◌≡◌, ◌<◌, ℕ, Bool, List, true, Some, None, IfOk, OnOk};
 ghost use Rattle.graph_model.specs.Graph.{Graph};
 ghost use Rattle.graph_model.specs.Served.{Storage};
-ghost use Rattle.graph_model.specs.declared.ask.Ask.{Ask as AnyAsk};
 ghost use Rattle.session_model.specs.Answer.{Turn};
-ghost use Rattle.session_model.specs.Commands.{Collect, Tidy, command_of};
-ghost use Rattle.session.specs.Broken.{IsBrokenAt, asked_in, broken_by, entity_in, taken_for};
+ghost use Rattle.session_lines.specs.Broken.{IsBrokenAt, asked_in, broken_by, entity_in, taken_for};
 ghost use Rattle.session.specs.Dealing.{BeginsLine};
-ghost use Rattle.session.specs.Due.{Meets, Replied, stored_text};
+ghost use Rattle.session_lines.specs.Due.{Meets, Replied, stored_text};
 ghost use Rattle.session.specs.Fitting.{TakesReply};
-ghost use Rattle.session.specs.Loads.{GoesOn};
-ghost use Rattle.session.specs.Stands.{Admits};
-ghost use Rattle.session.specs.Steady.{IsAskOf, IsSteadyLoading, IsSteadyOutcome, IsSteadyPhase, IsSteadyPurpose, KnowsObjects};
-ghost use Rattle.session.specs.Steps.{outcome_steps, phase_steps, purpose_steps};
-ghost use Rattle.session.specs.declared.memory.Memory.{Memory as AnyMemory};
-ghost use Rattle.session.specs.declared.outcome.Phase.{Phase as AnyPhase};
+ghost use Rattle.session_lines.specs.Loads.{ComesAfterLoading};
+ghost use Rattle.session_lines.specs.Stands.{Admits};
+ghost use Rattle.session_lines.specs.Steady.{IsSteadyLoading, IsSteadyOutcome, IsSteadyPhase, IsSteadyPurpose, KnowsObjects};
+ghost use Rattle.session_lines.specs.Steps.{outcome_steps, phase_steps, purpose_steps};
+ghost use Rattle.session_lines.specs.declared.memory.Memory.{Memory as AnyMemory};
+ghost use Rattle.session_lines.specs.declared.outcome.Phase.{Phase as AnyPhase};
 
-use crate::answers::{numbered_line, refusal_line};
 use crate::commands::{carry_out, take_command};
 use crate::export_line::export_on;
-use crate::exporting::Export;
 use crate::loading::{bind_loaded, load_on};
-use crate::memory::Memory;
-use crate::outcome::{Outcome, Phase, Purpose};
-use crate::refusal::Refusal;
 use graph_model::{Bytes, NoMemory, Reply};
 use lazy_refs::Loading;
 use script_text::{LineFault, read_line};
+use session_lines::{
+    Export, Memory, Outcome, Phase, Purpose, Refusal, numbered_line, refusal_line,
+};
 use std::alloc::Global;
 
 /// What a line of the script comes to.
@@ -36,8 +32,6 @@ pub fn take_line(memory: &mut Memory, text: &Bytes) -> Result<Outcome, NoMemory>
     ensures known { OnOk result (KnowsObjects memory.new) }
     ensures steady { IfOk result (IsSteadyOutcome memory.new) }
     ensures whole { IfOk result (λ outcome. broken_by outcome ≡ None) }
-    ensures tidies { command_of text.now ≡ Some Tidy → memory.old.started ≡ true → IfOk result (IsAskOf AnyAsk.Tidy) }
-    ensures collects { command_of text.now ≡ Some Collect → memory.old.started ≡ true → IfOk result (IsAskOf AnyAsk.Collect) }
     ensures meets { (is_next_type : List (List ℕ) → List ℕ → Bool) (storage : Storage) (due : Turn) → Admits is_next_type → BeginsLine text.now memory.old storage due
         → IfOk result (λ outcome. Meets is_next_type outcome memory.new storage due) }
 {
@@ -117,9 +111,9 @@ fn go_on(memory: &mut Memory, purpose: Purpose) -> Result<Outcome, NoMemory>
     ensures known { OnOk result (KnowsObjects memory.new) }
     ensures steady { IfOk result (IsSteadyOutcome memory.new) }
     ensures whole { IfOk result (λ outcome. broken_by outcome ≡ None) }
-    ensures meets { (is_next_type : List (List ℕ) → List ℕ → Bool) (storage : Storage) (due : Turn) → Admits is_next_type → GoesOn purpose memory.old storage due
+    ensures meets { (is_next_type : List (List ℕ) → List ℕ → Bool) (storage : Storage) (due : Turn) → Admits is_next_type → ComesAfterLoading purpose memory.old storage due
         → IfOk result (λ outcome. Meets is_next_type outcome memory.new storage due) }
-    ensures nearer { (storage : Storage) (due : Turn) → GoesOn purpose memory.old storage due → IfOk result (λ outcome. outcome_steps outcome storage.graph < purpose_steps purpose storage.graph) }
+    ensures nearer { (storage : Storage) (due : Turn) → ComesAfterLoading purpose memory.old storage due → IfOk result (λ outcome. outcome_steps outcome storage.graph < purpose_steps purpose storage.graph) }
 {
     match purpose {
         Purpose::Start(command) => carry_out(memory, command),

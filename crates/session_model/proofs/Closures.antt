@@ -12,7 +12,8 @@ use Rattle.type_desc.specs.declared.desc.TypeDesc.{TypeDesc}
 use Rattle.refactor_table.specs.declared.name.Pair.{Pair}
 use Rattle.session_model.specs.Instances.{Instances, has_instance, reached}
 use Rattle.session_model.specs.Loading.{Converted, Loaded, NoType, WrongKind, closure_of, conversion, eager_refs, loading_graph}
-use Rattle.session_model.specs.Sound.{AreTypes, HasForm, IsRightGraph, spares_root}
+use Rattle.session_model.specs.WellFormed.{IsWellFormed}
+use Rattle.session_model.specs.Sound.{AreTypes, IsRightGraph, spares_root}
 use Rattle.session_model.proofs.Converting.{conversion_right}
 use Rattle.session_model.proofs.IdLists.{sifted, sifts}
 use Rattle.session_model.proofs.Naming.{eager_are_refs}
@@ -60,7 +61,7 @@ loading_edge_from types pairs hs g y z edge = by (entity_of g y) refl (sym (ap (
         record { entity = entity; at = e; named = u.1; other = not-true (nat_eq z 0) t.0; absent = not-true (has_instance hs z) u.0 }
 
 -- what is loaded from an entity names only what the entity names
-pub conversion_names : (types : List TypeDesc) (pairs : List Pair) (x : ℕ) (entity : Entity) → AreTypes types → list_all spares_root pairs ≡ true → HasForm types x entity
+pub conversion_names : (types : List TypeDesc) (pairs : List Pair) (x : ℕ) (entity : Entity) → AreTypes types → list_all spares_root pairs ≡ true → IsWellFormed types x entity
     → (y : ℕ) → has y (eager_refs (conversion types pairs entity)) ≡ true → (y ≡ 0) ⊎ (has y (edges entity) ≡ true)
 conversion_names types pairs x entity are spares form y h = by (conversion types pairs entity) refl h
   where

@@ -29,7 +29,8 @@ use Rattle.refactor_table.specs.Names.{same_name}
 use Rattle.legacy_mapping.specs.Conversion.{converted, value_from}
 use Rattle.session_model.specs.Types.{all_of_kinds, desc_at, is_kind, is_of_kind, is_root_type, is_same_kind, source_of, sources_of, target_name, type_in}
 use Rattle.session_model.specs.Loading.{Loaded, WrongKind, conversion, converted_from, converted_if, converted_to, values_in}
-use Rattle.session_model.specs.Sound.{AreTypes, HasForm, IsProper, spares_root}
+use Rattle.session_model.specs.WellFormed.{IsWellFormed}
+use Rattle.session_model.specs.Sound.{AreTypes, IsProper, spares_root}
 use Rattle.session_model.proofs.Declaring.{latest_recorded}
 use Rattle.session_model.proofs.IdLists.{sifts}
 use Rattle.session_model.proofs.Naming.{default_names, default_proper}
@@ -186,7 +187,7 @@ pub record IsConverted (types : List TypeDesc) (x : ℕ) (entity : Entity) (obje
 same_object : (a b : Object) → Loaded a ≡ Loaded b → a ≡ b
 same_object a b e = cc
 
-entity_converted : (types : List TypeDesc) (pairs : List Pair) (x : ℕ) (entity : Entity) (object : Object) → AreTypes types → list_all spares_root pairs ≡ true → (form : HasForm types x entity)
+entity_converted : (types : List TypeDesc) (pairs : List Pair) (x : ℕ) (entity : Entity) (object : Object) → AreTypes types → list_all spares_root pairs ≡ true → (form : IsWellFormed types x entity)
     → (id : ℕ) (new : TypeDesc) → latest_of types (target_name pairs form.desc.name) ≡ Some id → desc_of types id ≡ Some new
     → converted_to pairs entity form.desc id new ≡ Loaded object → IsConverted types x entity object
 entity_converted types pairs x entity object are spares form id new latest known is = by (all_of_kinds pairs old new new.members) refl is
@@ -226,7 +227,7 @@ entity_converted types pairs x entity object are spares form id new latest known
     by true fits e = subst (IsConverted types x entity) (ap made (sym read) ∙ same_object (made (values_in (values_at (kinds_of old) 0 entity.refs entity.plain))) object e) (is_made fits)
     by false fits e = absurd cc
 
-pub conversion_right : (types : List TypeDesc) (pairs : List Pair) (x : ℕ) (entity : Entity) (object : Object) → AreTypes types → list_all spares_root pairs ≡ true → HasForm types x entity
+pub conversion_right : (types : List TypeDesc) (pairs : List Pair) (x : ℕ) (entity : Entity) (object : Object) → AreTypes types → list_all spares_root pairs ≡ true → IsWellFormed types x entity
     → conversion types pairs entity ≡ Loaded object → IsConverted types x entity object
 conversion_right types pairs x entity object are spares form is =
     by (latest_of types (target_name pairs form.desc.name)) refl (sym (ap (converted_from types pairs entity) form.known) ∙ is)

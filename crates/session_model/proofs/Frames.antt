@@ -12,7 +12,8 @@ use Rattle.type_dictionary.specs.Latest.{desc_of}
 use Rattle.refactor_table.specs.declared.name.Pair.{Pair}
 use Rattle.session_model.specs.Instances.{Instance, Instances}
 use Rattle.session_model.specs.Answer.{State, bound, is_bound, is_root_name}
-use Rattle.session_model.specs.Sound.{AreTypes, HasForm, IsHere, IsRightGraph, IsRightInstance, IsRightType, IsSound, spares_root}
+use Rattle.session_model.specs.WellFormed.{IsWellFormed}
+use Rattle.session_model.specs.Sound.{AreTypes, IsHere, IsRightGraph, IsRightInstance, IsRightType, IsSound, spares_root}
 use Rattle.session_model.proofs.Bindings.{bound_or_was, distinct_bound, distinct_dropped, dropped, root_bound, root_dropped, was_bound}
 
 -- ---- what grows
@@ -54,8 +55,8 @@ right_stays types new_types next new_next g h hs ks x i keeps up edges here r = 
   same = λ u y e. elim (r.same u y e) [ inl nothing ↦ inl nothing | inr edge ↦ inr (edges.edges y edge) ];
 }
 
-pub form_stays : (types new_types : List TypeDesc) (x : ℕ) (entity : Entity) → KeepsTypes types new_types → HasForm types x entity → HasForm new_types x entity
-form_stays types new_types x entity keeps f = record { desc = f.desc; known = keeps entity.type_id f.desc f.known; values = f.values; holds = f.holds; root = f.root; size = f.size }
+pub form_stays : (types new_types : List TypeDesc) (x : ℕ) (entity : Entity) → KeepsTypes types new_types → IsWellFormed types x entity → IsWellFormed new_types x entity
+form_stays types new_types x entity keeps f = record { desc = f.desc; known = keeps entity.type_id f.desc f.known; values = f.values; holds = f.holds; root = f.root }
 
 pub graph_stays : (types new_types : List TypeDesc) (next new_next : ℕ) (g : Graph) → KeepsTypes types new_types → next ≤ new_next
     → IsRightGraph types next g → IsRightGraph new_types new_next g
@@ -63,6 +64,7 @@ graph_stays types new_types next new_next g keeps up r = record {
   order = r.order;
   good_ids = λ x l. good_id_stays next new_next x up (r.good_ids x l);
   forms = λ x entity is. form_stays types new_types x entity keeps (r.forms x entity is);
+  sizes = r.sizes;
   whole = r.whole;
 }
 

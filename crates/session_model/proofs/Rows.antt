@@ -45,7 +45,7 @@ lines_are_refused_in_order = refl
 
 -- the empty store is one that a script may start from
 the_empty_store_is_right : IsRightGraph [] 1024 []
-the_empty_store_is_right = record { order = refl; good_ids = λ x l. absurd cc; forms = λ x entity is. absurd cc; whole = λ x y l edge. absurd cc }
+the_empty_store_is_right = record { order = refl; good_ids = λ x l. absurd cc; forms = λ x entity is. absurd cc; sizes = λ x entity is. absurd cc; whole = λ x y l edge. absurd cc }
 
 no_types_are_right : AreTypes []
 no_types_are_right = record { most = omega arith; each = λ i desc e. absurd cc }

@@ -17,7 +17,8 @@ use Rattle.entity_form.specs.declared.value.Value.{Value}
 use Rattle.entity_form.specs.declared.value.Value.TheVariants.{Int, Text, Bytes, Ref, Lazy, Refs}
 use Rattle.session_model.specs.Instances.{Instance, Instances, instance_at, is_unsaved}
 use Rattle.session_model.specs.Answer.{State, Refusal, are_too_big, gathered_records, id_of, is_bound, no_name, saved_instances, store_turn, stored, too_big}
-use Rattle.session_model.specs.Sound.{HasForm, IsProper, IsRightGraph, IsRightInstance, IsSound, all_refs}
+use Rattle.session_model.specs.WellFormed.{IsWellFormed}
+use Rattle.session_model.specs.Sound.{IsProper, IsRightGraph, IsRightInstance, IsSound, all_refs}
 use Rattle.session_model.proofs.Finding.{at_saved, if_stored, rises_saved}
 use Rattle.session_model.proofs.Frames.{KeepsEdges, KeepsHere, right_stays}
 use Rattle.session_model.proofs.Gathering.{IsGathered, WasGathered, gathered_op, gathers, record_fits, was_gathered}
@@ -43,14 +44,13 @@ values_held (v ∷ vs) proper refs plain =
 
 -- the entity of an instance has its form
 instance_form : (types : List TypeDesc) (next : ℕ) (g : Graph) (hs : Instances) (x : ℕ) (i : Instance) → IsRightInstance types next g hs x i
-    → entity_size (form.entity_of i.object) ≤ 1048576 → HasForm types x (form.entity_of i.object)
+    → entity_size (form.entity_of i.object) ≤ 1048576 → IsWellFormed types x (form.entity_of i.object)
 instance_form types next g hs x i right small = record {
   desc = right.desc;
   known = right.known;
   values = i.object.values;
   holds = record { of_kinds = right.kinds; held = values_held i.object.values right.proper refs_fit plain_fit; refs_are = refl; plain_are = refl };
   root = right.root;
-  size = small;
 }
   where
     size : 32 + 8 * length (flat_map refs_of i.object.values) + length (flat_map plain_of i.object.values) ≤ 1048576
@@ -125,6 +125,7 @@ graph_stored state s x xs g most small = record {
   order = rises_put_all records state.graph s.graph.order;
   good_ids = λ y there. good y there (stored_or_left hs xs state.graph y);
   forms = λ y entity is. has_form y entity is (stored_or_left hs xs state.graph y);
+  sizes = λ y entity is. has_size y entity is (stored_or_left hs xs state.graph y);
   whole = λ y z there edge. is_whole y z edge (stored_or_left hs xs state.graph y);
 }
   where
@@ -138,13 +139,20 @@ graph_stored state s x xs g most small = record {
     good y there (inl t) = (s.each y t.gathered.instance t.gathered.at).good_id
     good y there (inr l) = s.graph.good_ids y (sym (ap (λ (o : Option Entity). is_some o) l.is) ∙ there)
 
-    has_form : (y : ℕ) (entity : Entity) → entity_of (put_all records state.graph) y ≡ Some entity → IsStored hs xs state.graph y ⊎ IsLeft hs xs state.graph y → HasForm state.types y entity
+    has_form : (y : ℕ) (entity : Entity) → entity_of (put_all records state.graph) y ≡ Some entity → IsStored hs xs state.graph y ⊎ IsLeft hs xs state.graph y → IsWellFormed state.types y entity
     has_form y entity is (inl t) =
         let i = t.gathered.instance in
         let same : form.entity_of i.object ≡ entity = t.gathered.is ∙ same_entity t.entity entity (sym t.is ∙ is) in
         let fits = record_fits most records y (form.entity_of i.object) small (gathers hs xs y i t.gathered.at t.gathered.within) in
-        subst (HasForm state.types y) same (instance_form state.types state.next_id state.graph hs y i (s.each y i t.gathered.at) fits)
+        subst (IsWellFormed state.types y) same (instance_form state.types state.next_id state.graph hs y i (s.each y i t.gathered.at) fits)
     has_form y entity is (inr l) = s.graph.forms y entity (sym l.is ∙ is)
+
+    has_size : (y : ℕ) (entity : Entity) → entity_of (put_all records state.graph) y ≡ Some entity → IsStored hs xs state.graph y ⊎ IsLeft hs xs state.graph y → entity_size entity ≤ 1048576
+    has_size y entity is (inl t) =
+        let i = t.gathered.instance in
+        let same : form.entity_of i.object ≡ entity = t.gathered.is ∙ same_entity t.entity entity (sym t.is ∙ is) in
+        subst (λ (e : Entity). entity_size e ≤ 1048576) same (record_fits most records y (form.entity_of i.object) small (gathers hs xs y i t.gathered.at t.gathered.within))
+    has_size y entity is (inr l) = s.graph.sizes y entity (sym l.is ∙ is)
 
     is_whole : (y z : ℕ) → has_edge (put_all records state.graph) y z ≡ true → IsStored hs xs state.graph y ⊎ IsLeft hs xs state.graph y → lists (put_all records state.graph) z ≡ true
     is_whole y z edge (inl t) =

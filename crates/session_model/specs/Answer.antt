@@ -42,17 +42,23 @@ pub record State : Type 0 where
   pub instances : Instances
   pub started : Bool
 
--- what a line comes to: the state behind it, the lines answered, the dictionary records made and the stores made
+-- what a line has the storage do for itself: remove what is not kept, or dissolve files that are used too little
+pub data Housekeeping : Type 0 where
+  Collecting : Housekeeping
+  Tidying : Housekeeping
+
+-- what a line comes to: the state behind it, the lines answered, the dictionary records made, the stores made and the housekeeping done
 pub record Turn : Type 0 where
   pub state : State
   pub text : List ℕ
   pub records : List (List ℕ)
   pub stores : List StoreOp
+  pub housekeeping : List Housekeeping
 
 -- ---- answers
 
 abbrev pub answered : State → List ℕ → Turn
-answered state text = record { state = state; text = text ++ 10 ∷ []; records = []; stores = [] }
+answered state text = record { state = state; text = text ++ 10 ∷ []; records = []; stores = []; housekeeping = [] }
 
 abbrev pub ok : State → Turn
 ok state = answered state (codes "ok")
@@ -468,7 +474,11 @@ abbrev pub reached_records : Graph → List ℕ → Graph
 reached_records g starts = let ids = reached g starts in filter (λ (r : Record). has r.id ids) g
 
 abbrev pub collect_turn : State → Turn
-collect_turn state = answered state (codes "kept " ++ decimal (length (reached_records state.graph (1 ∷ held_ids state.instances))))
+collect_turn state =
+    record (answered state (codes "kept " ++ decimal (length (reached_records state.graph (1 ∷ held_ids state.instances))))) { housekeeping = Collecting ∷ [] }
+
+abbrev pub tidy_turn : State → Turn
+tidy_turn state = record (answered state (codes "tidied")) { housekeeping = Tidying ∷ [] }
 
 -- an entity as it is stored, by its stored type
 abbrev pub exported : State → Record → List ℕ
@@ -501,7 +511,7 @@ command_turn most state (cmd.Pick name member index new) = pick_turn state name 
 command_turn most state (cmd.DropName name) = drop_turn state name
 command_turn most state cmd.Forget = forget_turn state
 command_turn most state cmd.Collect = collect_turn state
-command_turn most state cmd.Tidy = answered state (codes "tidied")
+command_turn most state cmd.Tidy = tidy_turn state
 command_turn most state cmd.Export = export_turn state
 
 -- lines about types alone need no start

@@ -9,7 +9,6 @@ use Rattle.graph_model.specs.Stores.{any_edge, is_good_id}
 use Rattle.type_desc.specs.Grammar.{IsDesc}
 use Rattle.type_desc.specs.declared.desc.TypeDesc.{TypeDesc}
 use Rattle.type_dictionary.specs.Latest.{desc_of}
-use Rattle.entity_form.specs.Form.{Holds}
 use Rattle.entity_form.specs.Values.{kinds_of, AreOf, refs_of}
 use Rattle.entity_form.specs.declared.value.Value.{Value}
 use Rattle.entity_form.specs.declared.value.Value.TheVariants.{Int, Text, Bytes, Ref, Lazy, Refs}
@@ -17,6 +16,7 @@ use Rattle.refactor_table.specs.declared.name.Pair.{Pair}
 use Rattle.session_model.specs.Commands as cmd
 use Rattle.session_model.specs.Commands.{Command}
 use Rattle.session_model.specs.Types.{is_root_type, repeats_member, type_in}
+use Rattle.session_model.specs.WellFormed.{IsWellFormed}
 use Rattle.session_model.specs.Instances.{Instance, Instances, Held, instance_at, has_instance, eager_refs_of}
 use Rattle.session_model.specs.Answer.{State, Binding, id_in}
 
@@ -38,20 +38,12 @@ spares_root pair = not (is_root_type (type_in pair.old) || is_root_type (type_in
 
 -- ---- the graph
 
--- the entity of an id has the form of a known type, of at most 1 MiB; the root, and nothing else, has the root's type
-pub record HasForm (types : List TypeDesc) (x : ℕ) (entity : Entity) : Type 0 where
-  pub desc : TypeDesc
-  pub known : desc_of types entity.type_id ≡ Some desc
-  pub values : List Value
-  pub holds : Holds (kinds_of desc) entity.refs entity.plain values
-  pub root : nat_eq entity.type_id 1 ≡ nat_eq x 1
-  pub size : entity_size entity ≤ 1048576
-
--- ids by rising number, each 1 or from 1024 to below the next id; each entity has its form; and nothing that is named is missing
+-- ids by rising number, each 1 or from 1024 to below the next id; each entity is well-formed, of at most 1 MiB; and nothing that is named is missing
 pub record IsRightGraph (types : List TypeDesc) (next_id : ℕ) (g : Graph) : Type 0 where
   pub order : rises (ids g) ≡ true
   pub good_ids : (x : ℕ) → lists g x ≡ true → is_good_id next_id x ≡ true
-  pub forms : (x : ℕ) (entity : Entity) → entity_of g x ≡ Some entity → HasForm types x entity
+  pub forms : (x : ℕ) (entity : Entity) → entity_of g x ≡ Some entity → IsWellFormed types x entity
+  pub sizes : (x : ℕ) (entity : Entity) → entity_of g x ≡ Some entity → entity_size entity ≤ 1048576
   pub whole : (x y : ℕ) → lists g x ≡ true → has_edge g x y ≡ true → lists g y ≡ true
 
 -- ---- names

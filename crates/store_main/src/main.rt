@@ -1,50 +1,20 @@
 //! The program: a script from standard input, its answers on standard output, and a folder of the host.
 #![tactic(auto)]
 
-mod folder_disk;
-mod handles;
-mod std_sink;
-mod std_source;
+mod help;
+mod messages;
+mod opening;
+mod refused;
 
-ghost use Rattle.std.specs.Prelude.{◌≡◌, IsTrue, IfOk, length};
-ghost use Rattle.store_run.specs.Words.{are_run_words};
-
-use crate::folder_disk::{FolderDisk, HostFault};
-use crate::std_sink::StdSink;
-use crate::std_source::StdSource;
-use std::alloc::Global;
+use crate::help::{USAGE, show_help, show_version};
+use crate::messages::Speaker;
+use crate::opening::open_disks;
 use std::io::ErrorKind;
+use std::path::Path;
 use std::process::ExitCode;
 use std::{env, io};
-use store_run::{Status, are_run_words, run_alone};
-
-const USAGE: &str = "usage: store_main run DIR 1";
-
-const VERSION: &str = "store_main 0.1.0";
-
-/// The words after the program's name.
-fn words_of(rt: &HostRuntime) -> io::Result<Vec<String>> {
-    let mut words = Vec::new(rt.alloc());
-    for word in env::args(rt)?.skip(1) {
-        words.push(word)?;
-    }
-    Ok(words)
-}
-
-/// The folder of each channel that the words ask for.
-fn disks_of(rt: HostRuntime, alloc: Global, words: &[String]) -> Result<Vec<FolderDisk>, HostFault>
-    ensures { IfOk result (λ disks. IsTrue (are_run_words words.now) → length disks.items ≡ 1) }
-{
-    let mut disks = Vec::new(alloc);
-    if are_run_words(words) {
-        let dir = format!(in alloc; "{}/channel_0", words[1])?;
-        let disk = FolderDisk::open(rt, alloc, dir.as_str())?;
-        if disks.push(disk).is_err() {
-            return Err(HostFault::NoMemory);
-        }
-    }
-    Ok(disks)
-}
+use store_host::{FirstRefusal, HostFault, StdSink, StdSource};
+use store_run::{Status, run_alone};
 
 /// The number that the process ends with.
 fn number_of(status: Status) -> u8 {
@@ -61,40 +31,85 @@ fn number_of(status: Status) -> u8 {
     }
 }
 
-fn run(rt: HostRuntime, words: &Vec<String>) -> Status {
+/// The status of a run whose folder was not opened.
+fn status_of(fault: &HostFault) -> Status {
+    match fault {
+        HostFault::NoMemory => Status::NoMemory,
+        HostFault::Folder { .. } | HostFault::InUse => Status::StorageFault,
+    }
+}
+
+/// What the program is called, without the folders before its name.
+fn short_name(program: &str) -> &str {
+    Path::new(program).file_name().unwrap_or(program)
+}
+
+fn run(rt: HostRuntime, program: &str, words: &Vec<String>) -> Status {
     let alloc = rt.alloc();
-    let mut source = StdSource::new(rt.stdin());
-    let mut sink = StdSink::new(rt.stdout());
-    match disks_of(rt, alloc, words) {
-        Ok(mut disks) => run_alone(alloc, words, &mut source, &mut sink, &mut disks),
-        Err(HostFault::NoMemory) => Status::NoMemory,
-        Err(HostFault::Folder) => Status::StorageFault,
+    let speaker = Speaker {
+        rt,
+        program: short_name(program),
+        dir: words.get(1).map_or("", |word| word.as_str()),
+    };
+    let first = FirstRefusal::new();
+    let mut source = StdSource::new(alloc, rt.stdin(), &first);
+    let mut sink = StdSink::new(alloc, rt.stdout(), &first);
+    match open_disks(rt, alloc, words) {
+        Ok((_folder, mut disks)) => {
+            let status = run_alone(alloc, words, &mut source, &mut sink, &mut disks);
+            speaker.ended(status, &source, &sink, &disks);
+            status
+        }
+        Err(fault) => {
+            speaker.say(fault.path().unwrap_or(speaker.dir), &fault);
+            status_of(&fault)
+        }
     }
 }
 
-/// Prints a text that was asked for.
-fn show(rt: &HostRuntime, text: &str) -> Status {
-    match println!(rt; "{text}") {
+/// The status of a call that shows what was asked for.
+fn shown(rt: HostRuntime, program: &str, written: io::Result<()>) -> Status {
+    match written {
         Ok(()) => Status::Done,
-        Err(_) => Status::WriteFault,
+        Err(reason) => {
+            let _ = eprintln!(rt; "{}: standard output: {reason}", short_name(program));
+            Status::WriteFault
+        }
     }
 }
 
-fn serve(rt: &HostRuntime, words: &Vec<String>) -> Status {
+fn serve(rt: HostRuntime, program: &str, words: &Vec<String>) -> Status {
     if let [word] = words.as_slice() {
         match word.as_str() {
-            "--help" => return show(rt, USAGE),
-            "--version" => return show(rt, VERSION),
+            "--help" | "-h" | "help" => return shown(rt, program, show_help(&rt, program)),
+            "--version" => return shown(rt, program, show_version(&rt)),
             _ => {}
         }
     }
-    run(*rt, words)
+    run(rt, program, words)
+}
+
+/// The program's name as it was called, and the words after it.
+fn words_of(rt: &HostRuntime) -> io::Result<(String, Vec<String>)> {
+    let mut args = env::args(rt)?;
+    let program = match args.next() {
+        Some(program) => program,
+        None => String::from_str(rt.alloc(), "store_main")?,
+    };
+    let mut words = Vec::new(rt.alloc());
+    for word in args {
+        words.push(word)?;
+    }
+    Ok((program, words))
 }
 
 fn main(rt: HostRuntime) -> ExitCode {
     let status = match words_of(&rt) {
-        Ok(words) => serve(&rt, &words),
-        Err(e) if e.kind() == ErrorKind::OutOfMemory => Status::NoMemory,
+        Ok((program, words)) => serve(rt, &program, &words),
+        Err(e) if e.kind() == ErrorKind::OutOfMemory => {
+            let _ = eprintln!(rt; "store_main: there is not enough memory");
+            Status::NoMemory
+        }
         Err(_) => Status::Words,
     };
     if status == Status::Words {

@@ -1,4 +1,4 @@
-//! Runs over memory.
+//! Runs over devices in memory.
 ghost use Rattle.std.specs.Prelude.{◌≡◌, length, IfOk};
 
 use std::alloc::{AllocError, AllocFailed, Global};
@@ -62,19 +62,4 @@ pub fn run(
     let words = words(alloc, &["run", "d", "1"])?;
     let mut source = MemSource::new(Vec::from_slice(alloc, script)?, 7, Vec::new(alloc));
     Ok(run_alone(alloc, &words, &mut source, sink, disks))
-}
-
-/// Whether a run of the script ends with `Done` and these answers.
-pub fn is_answered(
-    alloc: Global,
-    disks: &mut Vec<MemDisk>,
-    script: &[u8],
-    answers: &[u8],
-) -> Result<bool, Fail>
-    requires { length disks.old.items ≡ 1 }
-    ensures { length disks.new.items ≡ length disks.old.items }
-{
-    let mut sink = MemSink::new(alloc, Vec::new(alloc));
-    let status = run(alloc, script, &mut sink, disks)?;
-    Ok(status == Status::Done && sink.written().as_slice() == answers)
 }

@@ -3,7 +3,7 @@ use Rattle.std.proofs.Common.{◌≡◌, ◌<◌, ◌+◌, ◌++◌, [], ◌∷�
 use Rattle.std.proofs.lemmas.List.{drop_at}
 use Rattle.std.proofs.lemmas.List.Sums.{sum_by-append, sum_by-cons}
 use Rattle.session_model.specs.Answer.{State, turn}
-use Rattle.session.specs.Limits.{most_bytes}
+use Rattle.session_lines.specs.Limits.{most_bytes}
 use Rattle.store_run.specs.Lines.{ended, whole_lines}
 use Rattle.store_run.specs.Answer.{answers, state_after, stores_of}
 use Rattle.store_run.specs.Acknowledged.{acknowledged, count_stored, says_stored}

@@ -4,7 +4,7 @@ use Rattle.std.proofs.lemmas.List.{append-nil}
 use Rattle.graph_model.specs.declared.entity.StoreOp.{StoreOp}
 use Rattle.graph_model.specs.Graph.{Graph, after, put_all}
 use Rattle.session_model.specs.Answer.{State, turn}
-use Rattle.session.specs.Limits.{most_bytes}
+use Rattle.session_lines.specs.Limits.{most_bytes}
 use Rattle.plain_storage.specs.Held.{PlainHeld}
 use Rattle.plain_storage.specs.Stores.{last_next_id}
 use Rattle.store_run.specs.Answer.{answers, held_after, held_behind, held_with, opened_on, state_after, stores_of}

@@ -10,12 +10,12 @@ use Rattle.graph_model.specs.Stores.{total_size}
 use Rattle.type_desc.specs.declared.desc.TypeDesc.{TypeDesc}
 use Rattle.type_dictionary.specs.Records.{IsNextRecord, records_from}
 use Rattle.session_model.specs.Answer.{Turn}
-use Rattle.session.specs.Dealing.{Asks, Gives}
-use Rattle.session.specs.Due.{rest_of, without}
-use Rattle.session.specs.declared.session.Session.{Session}
-use Rattle.session.specs.declared.session.Turn.{Turn as Step}
-use Rattle.session.specs.declared.session.Turn.TheVariants as step
-use Rattle.session.proofs.TypeWords.{records_behind}
+use Rattle.session.specs.Dealing.{Asks, IsDueStep}
+use Rattle.session_lines.specs.Due.{rest_of, without}
+use Rattle.session.specs.Sessions.{SessionView as Session}
+use Rattle.session.specs.declared.session.SessionStep.{SessionStep as Step}
+use Rattle.session.specs.declared.session.SessionStep.TheVariants as step
+use Rattle.session_lines.proofs.TypeWords.{records_behind}
 use Rattle.plain_storage.specs.Held.{IsSoundGraph, PlainHeld}
 use Rattle.plain_storage.specs.Keeping.{IsNext, MayServe, Plain, held_in, storage_of, types_with}
 use Rattle.plain_storage.specs.Stores.{last_next_id}
@@ -113,7 +113,7 @@ ask_may asks.Collect session line plain types due put gives stage makes = tt
 ask_may asks.Tidy session line plain types due put gives stage makes = tt
 
 pub step_may : (told kept : Bool) (line : LineBegun) (next : Step) (session : Session) (plain : Plain) (reads : ℕ → List ℕ) (written : List ℕ)
-    → IsWithin told kept line (Gives any_record next session) plain reads written → MayCarry plain next
+    → IsWithin told kept line (IsDueStep any_record next session) plain reads written → MayCarry plain next
 step_may told kept line (step.Ask ask) session plain reads written within = ask_may ask session line plain within.types within.due within.put within.stands within.stage within.makes
 step_may told kept line (step.Print text) session plain reads written within = tt
 step_may told kept line step.Done session plain reads written within = tt

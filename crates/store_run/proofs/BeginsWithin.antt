@@ -6,18 +6,18 @@ use Rattle.graph_model.specs.declared.ask.Reply.TheVariants as replies
 use Rattle.type_dictionary.specs.Records.{records_from}
 use Rattle.session_model.specs.Answer.{State, Turn, turn}
 use Rattle.session.specs.Dealing.{AfterPrint, AfterReply, AwaitsLine, ComesNearer, MayGive}
-use Rattle.session.specs.Due.{Replied}
+use Rattle.session_lines.specs.Due.{Replied}
 use Rattle.session.specs.Fitting.{Fits, TakesReply}
-use Rattle.session.specs.Limits.{most_bytes}
-use Rattle.session.specs.Stands.{Admits}
-use Rattle.session.specs.declared.memory.Memory.{Memory}
-use Rattle.session.specs.declared.outcome.Phase.{Phase}
-use Rattle.session.specs.declared.outcome.Phase.TheVariants as phases
-use Rattle.session.specs.declared.outcome.Waiting.{Waiting}
-use Rattle.session.specs.declared.outcome.Waiting.TheVariants as waits
+use Rattle.session_lines.specs.Limits.{most_bytes}
+use Rattle.session_lines.specs.Stands.{Admits}
+use Rattle.session_lines.specs.declared.memory.Memory.{Memory}
+use Rattle.session_lines.specs.declared.outcome.Phase.{Phase}
+use Rattle.session_lines.specs.declared.outcome.Phase.TheVariants as phases
+use Rattle.session_lines.specs.declared.outcome.Waiting.{Waiting}
+use Rattle.session_lines.specs.declared.outcome.Waiting.TheVariants as waits
 use Rattle.session.specs.declared.session.Given.{Given}
 use Rattle.session.specs.declared.session.Given.TheVariants as given
-use Rattle.session.specs.declared.session.Session.{Session}
+use Rattle.session.specs.Sessions.{SessionView as Session}
 use Rattle.plain_storage.specs.Images.{OtherFilesStay}
 use Rattle.plain_storage.specs.Keeping.{Keeps, Plain, held_in, storage_of}
 use Rattle.store_run.specs.Serving.{IsAt}
@@ -64,6 +64,7 @@ line_fits waits.ForLine text waits = tt
 line_fits (waits.ForReply phase) text waits = absurd waits
 line_fits waits.ForPrinted text waits = absurd waits
 line_fits (waits.ForNextLine export) text waits = absurd waits
+line_fits waits.GivenUp text waits = absurd waits
 
 reply_taken : (phase : Phase) (reply : Reply) (memory : Memory) (storage : Storage) (due : Turn) → Replied phase reply memory storage due → TakesReply phase reply
 reply_taken (phases.Saying text) reply memory storage due replied = tt
@@ -79,12 +80,14 @@ reply_fits (waits.ForReply phase) reply memory storage due replied = reply_taken
 reply_fits waits.ForLine reply memory storage due replied = absurd replied
 reply_fits waits.ForPrinted reply memory storage due replied = absurd replied
 reply_fits (waits.ForNextLine export) reply memory storage due replied = absurd replied
+reply_fits waits.GivenUp reply memory storage due replied = absurd replied
 
 printed_fits : (waiting : Waiting) (memory : Memory) (storage : Storage) (due : Turn) → AfterPrint waiting memory storage due → Fits given.Printed waiting
 printed_fits waits.ForPrinted memory storage due behind = tt
 printed_fits (waits.ForNextLine export) memory storage due behind = tt
 printed_fits waits.ForLine memory storage due behind = absurd behind
 printed_fits (waits.ForReply phase) memory storage due behind = absurd behind
+printed_fits waits.GivenUp memory storage due behind = absurd behind
 
 given_fits : (next : Given) (session : Session) (storage : Storage) (due : Turn) → MayGive next session storage due → Fits next session.waiting
 given_fits (given.Line text) session storage due may = line_fits session.waiting text may.0

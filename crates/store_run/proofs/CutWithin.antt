@@ -6,10 +6,10 @@ use Rattle.graph_model.specs.declared.ask.Ask.TheVariants as asks
 use Rattle.graph_model.specs.Served.{Storage}
 use Rattle.type_dictionary.specs.Records.{records_from}
 use Rattle.session_model.specs.Answer.{Turn}
-use Rattle.session.specs.Dealing.{Gives, Prints}
-use Rattle.session.specs.Due.{IsDue}
-use Rattle.session.specs.declared.session.Session.{Session}
-use Rattle.session.specs.declared.session.Turn.TheVariants as step
+use Rattle.session.specs.Dealing.{IsDueStep, Prints}
+use Rattle.session_lines.specs.Due.{IsDue}
+use Rattle.session.specs.Sessions.{SessionView as Session}
+use Rattle.session.specs.declared.session.SessionStep.TheVariants as step
 use Rattle.plain_storage.specs.Held.{IsPlainStored, PlainHeld}
 use Rattle.plain_storage.specs.Images.{AreClean, EachPair}
 use Rattle.plain_storage.specs.Keeping.{HoldsEither, IsNext, IsOverFull, Plain, held_in, storage_of}
@@ -80,7 +80,7 @@ pub ask_cut : (told kept : Bool) (line : LineBegun) (ask : Ask) (session : Sessi
     → IsTrue told → IsTrue kept → (stop ≡ Full → IsOverFull ask reads')
     → ((held next : PlainHeld) → IsPlainStored (reads 0) (reads 1) held → held.number ≡ plain.stores_log.count → held.next_id ≡ plain.next_id → IsNext ask held next
     → EachPair leaves (HoldsEither held next))
-    → IsWithin told kept line (Gives any_record (step.Ask ask) session) plain reads written → IsTurnCut line.turn line.held stop line.written written reads' leaves
+    → IsWithin told kept line (IsDueStep any_record (step.Ask ask) session) plain reads written → IsTurnCut line.turn line.held stop line.written written reads' leaves
 ask_cut told kept line ask session plain reads written reads' leaves stop t k over images within = record {
   part = within.put;
   part_rest = within.due.text;
@@ -113,7 +113,7 @@ ask_cut told kept line ask session plain reads written reads' leaves stop t k ov
 
 pub print_cut : (told kept : Bool) (line : LineBegun) (text : List ℕ) (session : Session) (plain : Plain) (reads : ℕ → List ℕ) (written new_written : List ℕ) (leaves : ℕ → List ℕ → Bool)
     (stop : Stop) (n : ℕ) → IsTrue told → IsTrue kept → AreClean reads leaves → stop ≡ WriteFault → new_written ≡ written ++ take n text
-    → IsWithin told kept line (Gives any_record (step.Print text) session) plain reads written → IsTurnCut line.turn line.held stop line.written new_written reads leaves
+    → IsWithin told kept line (IsDueStep any_record (step.Print text) session) plain reads written → IsTurnCut line.turn line.held stop line.written new_written reads leaves
 print_cut told kept line text session plain reads written new_written leaves stop n t k clean is put within = record {
   part = within.put ++ take n text;
   part_rest = drop n text ++ prints.rest;

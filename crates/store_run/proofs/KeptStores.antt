@@ -4,7 +4,7 @@ use Rattle.std.proofs.lemmas.List.{take-append-drop, take_at}
 use Rattle.graph_model.specs.declared.entity.StoreOp.{StoreOp}
 use Rattle.graph_model.specs.Graph.{after}
 use Rattle.session_model.specs.Answer.{State, turn}
-use Rattle.session.specs.Limits.{most_bytes}
+use Rattle.session_lines.specs.Limits.{most_bytes}
 use Rattle.plain_storage.specs.Held.{IsPlainStored, PlainHeld}
 use Rattle.plain_storage.specs.Stores.{last_next_id}
 use Rattle.store_run.specs.Acknowledged.{acknowledged, says_stored}

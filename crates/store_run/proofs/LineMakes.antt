@@ -18,15 +18,15 @@ use Rattle.session_model.specs.Commands.{Command, Target, command_of}
 use Rattle.session_model.specs.Types.{is_root_type, repeats_member, type_in}
 use Rattle.session_model.specs.Instances.{Instances, gathered_eagerly, gathered_lazily}
 use Rattle.session_model.specs.Answer.{Refusal, State, Turn, answered, are_too_big, collect_turn, command_turn, export_turn, first_instances, forget_turn, gathered_records, given, id_of, is_known, judged, loaded_turn, needs_start, nothing, ref_in, refs_in}
-use Rattle.session_model.specs.Answer.{refused, root_target, started_turn, store_turn, stored, target_id, turn, turn_of, type_known, type_new, type_turn, value_of, with_loaded}
+use Rattle.session_model.specs.Answer.{refused, root_target, started_turn, store_turn, stored, target_id, tidy_turn, turn, turn_of, type_known, type_new, type_turn, value_of, with_loaded}
 use Rattle.session_model.specs.Answer.{differs, duplicate, is_bound, is_full, is_out_of_range, is_root_name, is_unbound, lacks_member, misfits, name_taken, no_member, no_name, no_root, no_target, no_type, out_of_range, reserved, too_big, wrong_kind}
 use Rattle.session_model.specs.Sound.{IsProperCommand, IsRightGraph, IsSound}
 use Rattle.session_model.proofs.IdLists.{total_is_sum}
 use Rattle.session_model.proofs.Judging.{NoneDue}
 use Rattle.session_model.proofs.Spelled.{spelled_proper}
 use Rattle.session_model.proofs.Turning.{turn_sound}
-use Rattle.session.proofs.TypeWords.{is_other, own_names}
-use Rattle.session.specs.Limits.{most_bytes}
+use Rattle.session_lines.proofs.TypeWords.{is_other, own_names}
+use Rattle.session_lines.specs.Limits.{most_bytes}
 use Rattle.plain_storage.specs.Held.{IsSoundGraph, PlainHeld}
 use Rattle.store_run.specs.Within.{MakesNothing, MakesOne, MakesType}
 
@@ -167,7 +167,7 @@ command_makes state n x (cmd.Pick name member index new) proper =
 command_makes state n x (cmd.DropName name) proper = judged_quiet (held_at state n x) state (reserved (is_root_name name) ∷ no_name (not (is_bound state name)) ∷ []) _ refl refl refl refl
 command_makes state n x cmd.Forget proper = quiet (held_at state n x) (forget_turn state) refl refl refl
 command_makes state n x cmd.Collect proper = quiet (held_at state n x) (collect_turn state) refl refl refl
-command_makes state n x cmd.Tidy proper = quiet (held_at state n x) (answered state (codes "tidied")) refl refl refl
+command_makes state n x cmd.Tidy proper = quiet (held_at state n x) (tidy_turn state) refl refl refl
 command_makes state n x cmd.Export proper = quiet (held_at state n x) (export_turn state) refl refl refl
 
 started_makes : (state : State) (number next_id : ℕ) (command : Command) (first : Result Instances (List ℕ)) → IsProperCommand command

@@ -14,13 +14,12 @@ use Rattle.session_model.specs.Types.{is_root_type}
 use Rattle.session_model.specs.Answer.{State}
 use Rattle.session.specs.Dealing.{AwaitsLine}
 use Rattle.session.specs.Fitting.{Fits}
-use Rattle.session.specs.Stands.{StandsAt}
-use Rattle.session.specs.Steady.{IsSteady}
-use Rattle.session.specs.declared.outcome.Waiting.{Waiting}
-use Rattle.session.specs.declared.outcome.Waiting.TheVariants as waits
+use Rattle.session_lines.specs.Stands.{IsAtState}
+use Rattle.session_lines.specs.declared.outcome.Waiting.{Waiting}
+use Rattle.session_lines.specs.declared.outcome.Waiting.TheVariants as waits
 use Rattle.session.specs.declared.session.Given.TheVariants as given
-use Rattle.session.specs.declared.session.Session.{Session}
-use Rattle.session.proofs.TypeWords.{none_repeated}
+use Rattle.session.specs.Sessions.{SessionView as Session}
+use Rattle.session_lines.proofs.TypeWords.{none_repeated}
 use Rattle.plain_storage.specs.Keeping.{IsStart, Keeps, Plain, held_in, storage_of}
 use Rattle.store_run.specs.Answer.{opened_on}
 use Rattle.store_run.specs.Progress.{StandsBehind}
@@ -53,9 +52,8 @@ pub right_graph : (p : Plain) (types : List TypeDesc) → IsStart p types → Is
 right_graph p types start = record {
   order = start.order;
   good_ids = start.good_ids;
-  forms = λ x entity found.
-      let form = start.sound.forms x entity found in
-      record { desc = form.desc; known = form.known; values = form.values; holds = form.holds; root = form.root; size = start.sizes x entity found };
+  forms = λ x entity found. let form = start.sound.forms x entity found in record { desc = form.desc; known = form.known; values = form.values; holds = form.holds; root = form.root };
+  sizes = start.sizes;
   whole = λ x y listed edge. start.sound.whole x y edge;
 }
 
@@ -68,12 +66,13 @@ awaits_line waits.ForLine fits = tt
 awaits_line (waits.ForReply phase) fits = fits []
 awaits_line waits.ForPrinted fits = fits []
 awaits_line (waits.ForNextLine export) fits = fits []
+awaits_line waits.GivenUp fits = fits []
 
 -- a session that waits for its first line, and stands at the start
-pub first_at : (p : Plain) (state : State) (r : Result Session NoMemory) → IfOk r IsSteady → IfOk r (λ session. (text : List ℕ) → Fits (given.Line text) session.waiting)
-    → IfOk r (λ session. StandsAt session.memory (storage_of p (records_from 16 state.types)) state) → IfOk r (λ session. IsAt session p state)
-first_at p state (Ok session) steady fits stands = record { steady = steady; waits = awaits_line session.waiting fits; stands = stands }
-first_at p state (Err e) steady fits stands = tt
+pub first_at : (p : Plain) (state : State) (r : Result Session NoMemory) → IfOk r (λ session. (text : List ℕ) → Fits (given.Line text) session.waiting)
+    → IfOk r (λ session. IsAtState session.memory (storage_of p (records_from 16 state.types)) state) → IfOk r (λ session. IsAt session p state)
+first_at p state (Ok session) fits stands = record { waits = awaits_line session.waiting fits; stands = stands }
+first_at p state (Err e) fits stands = tt
 
 -- and all stands at the start
 pub first_stands : (p : Plain) (types : List TypeDesc) (session : Session) (reads : ℕ → List ℕ) → IsAt session p (opened_on (held_in p types)) → Keeps p types reads → StandsBehind (held_in p types) [] session p reads

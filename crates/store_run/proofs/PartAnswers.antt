@@ -2,8 +2,8 @@
 use Rattle.std.proofs.Common.{◌≡◌, ◌<◌, ◌+◌, ◌++◌, [], ◌∷◌, ℕ, ◌⊎◌, inl, inr, ⊎_elim, List, Bool, length, take, drop, get_or, refl, ap, sym, subst, ◌∙◌, arith, append_assoc, length-append}
 use Rattle.std.proofs.lemmas.List.{append-nil, drop_more, take-append-drop, take_more}
 use Rattle.session_model.specs.Answer.{turn}
-use Rattle.session.specs.Limits.{most_bytes}
-use Rattle.session.specs.declared.session.Session.{Session}
+use Rattle.session_lines.specs.Limits.{most_bytes}
+use Rattle.session.specs.Sessions.{SessionView as Session}
 use Rattle.plain_storage.specs.Held.{IsPlainStored, PlainHeld}
 use Rattle.plain_storage.specs.Images.{EachPair}
 use Rattle.plain_storage.specs.Keeping.{Plain}

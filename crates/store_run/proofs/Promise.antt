@@ -2,8 +2,8 @@
 use Rattle.std.proofs.Common.{◌≡◌, ◌≢◌, ◌++◌, [], ◌∷◌, ℕ, Bool, List, inl, inr, ⊎_elim, take, drop, refl, ap, sym, subst, ◌∙◌, append_assoc}
 use Rattle.std.proofs.lemmas.List.{append-nil, take-append-drop}
 use Rattle.session_model.specs.Answer.{State, turn}
-use Rattle.session.specs.Limits.{most_bytes}
-use Rattle.session.specs.declared.session.Session.{Session}
+use Rattle.session_lines.specs.Limits.{most_bytes}
+use Rattle.session.specs.Sessions.{SessionView as Session}
 use Rattle.plain_storage.specs.Held.{PlainHeld}
 use Rattle.plain_storage.specs.Images.{AreClean, EachPair}
 use Rattle.plain_storage.specs.Keeping.{Plain}

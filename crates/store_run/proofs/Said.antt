@@ -15,9 +15,9 @@ use Rattle.session_model.specs.Commands as cmd
 use Rattle.session_model.specs.Commands.{Command, command_of}
 use Rattle.session_model.specs.Instances.{Instances, gathered_eagerly, gathered_lazily, has_instance, put_instance}
 use Rattle.session_model.specs.Loading.{Converted, Loaded, NoType, WrongKind, closure_of, conversion, load, load_all, then_load, values_in}
-use Rattle.session_model.specs.Answer.{State, Turn, answered, collect_turn, command_turn, desc_of_instance, export_turn, first_instances, follow_turn, forget_turn, fresh, id_of, is_known, loaded_turn, named_instance, needs_start, no_desc, reached_records, refused, show_turn, started_turn, store_turn, stored, turn, turn_of, type_known, type_new, type_turn, with_loaded}
+use Rattle.session_model.specs.Answer.{State, Turn, answered, collect_turn, command_turn, desc_of_instance, export_turn, first_instances, follow_turn, forget_turn, fresh, id_of, is_known, loaded_turn, named_instance, needs_start, no_desc, reached_records, refused, show_turn, started_turn, store_turn, stored, tidy_turn, turn, turn_of, type_known, type_new, type_turn, with_loaded}
 use Rattle.session_model.specs.Types.{is_root_type, repeats_member}
-use Rattle.session.specs.Limits.{most_bytes}
+use Rattle.session_lines.specs.Limits.{most_bytes}
 use Rattle.graph_export.specs.Line.{HasNoFeed}
 use Rattle.store_run.specs.Lines.{AllHaveNoFeed, ended}
 use Rattle.store_run.specs.Acknowledged.{says_stored}
@@ -211,7 +211,7 @@ said_command most state (cmd.Pick name member index new) = search (said_unless, 
 said_command most state (cmd.DropName name) = search (said_unless, said_ok) depth 12
 said_command most state cmd.Forget = said_number (forget_turn state) (codes "forgot ") _ refl refl refl
 said_command most state cmd.Collect = said_number (collect_turn state) (codes "kept ") _ refl refl refl
-said_command most state cmd.Tidy = said_line (answered state (codes "tidied")) (codes "tidied") refl (feedless_is (codes "tidied") refl) refl
+said_command most state cmd.Tidy = said_line (tidy_turn state) (codes "tidied") refl (feedless_is (codes "tidied") refl) refl
 said_command most state cmd.Export = said_export state
 
 said_started : (most : ℕ) (state : State) (command : Command) (first : Result Instances (List ℕ)) → HasPlainCode first → IsSaid (started_turn most state command first)

@@ -4,8 +4,8 @@ use Rattle.std.proofs.lemmas.Bool.{cases_Bool}
 use Rattle.std.proofs.lemmas.Bool.Decides.{Decides-eqb}
 use Rattle.std.proofs.lemmas.List.{append-nil}
 use Rattle.session_model.specs.Answer.{State, turn}
-use Rattle.session.specs.Limits.{most_bytes}
-use Rattle.session.specs.declared.session.Session.{Session}
+use Rattle.session_lines.specs.Limits.{most_bytes}
+use Rattle.session.specs.Sessions.{SessionView as Session}
 use Rattle.plain_storage.specs.Held.{IsPlainStored, PlainHeld}
 use Rattle.plain_storage.specs.Images.{AreClean, EachPair}
 use Rattle.plain_storage.specs.Keeping.{Keeps, Plain, held_in}

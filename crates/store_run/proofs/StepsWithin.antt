@@ -8,13 +8,13 @@ use Rattle.graph_model.specs.Served.{Served, Storage}
 use Rattle.type_desc.specs.declared.desc.TypeDesc.{TypeDesc}
 use Rattle.type_dictionary.specs.Records.{records_from}
 use Rattle.session_model.specs.Answer.{State, Turn}
-use Rattle.session.specs.Dealing.{AfterReply, AwaitsLine, Gives, IsDone, Prints}
-use Rattle.session.specs.Due.{without}
-use Rattle.session.specs.Lines.{IsLine}
-use Rattle.session.specs.Stands.{StandsAt}
+use Rattle.session.specs.Dealing.{AfterReply, AwaitsLine, IsDueStep, IsDone, Prints}
+use Rattle.session_lines.specs.Due.{without}
+use Rattle.session_lines.specs.Lines.{IsLine}
+use Rattle.session_lines.specs.Stands.{IsAtState}
 use Rattle.session.specs.declared.session.Given.TheVariants as given
-use Rattle.session.specs.declared.session.Session.{Session}
-use Rattle.session.specs.declared.session.Turn.TheVariants as step
+use Rattle.session.specs.Sessions.{SessionView as Session}
+use Rattle.session.specs.declared.session.SessionStep.TheVariants as step
 use Rattle.plain_storage.specs.Held.{PlainHeld}
 use Rattle.plain_storage.specs.Keeping.{IsNext, Keeps, Plain, held_in, storage_of, types_with}
 use Rattle.store_run.specs.Answer.{held_behind}
@@ -60,7 +60,7 @@ without_state asks.Collect turn = refl
 without_state asks.Tidy turn = refl
 
 pub served_within : (told kept : Bool) (line : LineBegun) (ask : Ask) (session : Session) (plain new : Plain) (reads new_reads : ℕ → List ℕ) (written : List ℕ) (reply : Reply)
-    → IsWithin told kept line (Gives any_record (step.Ask ask) session) plain reads written
+    → IsWithin told kept line (IsDueStep any_record (step.Ask ask) session) plain reads written
     → ((types : List (List ℕ)) → Served (storage_of plain types) ask reply (storage_of new (types_with ask types)))
     → (IsTrue kept → (types next_types : List TypeDesc) → Keeps plain types reads → IsNext ask (held_in plain types) (held_in new next_types) → Keeps new next_types new_reads)
     → IsWithin told kept line (StandsFor (Some (given.Reply reply)) session) new new_reads written
@@ -111,7 +111,7 @@ more_lines : (put line : List ℕ) → IsLine line → EndsLine (put ++ line)
 more_lines put line is = inr (put ++ is.text, ap (λ (l : List ℕ). put ++ l) is.bytes_is ∙ sym (append_assoc put is.text (10 ∷ [])))
 
 pub printed_within : (told kept : Bool) (line : LineBegun) (text : List ℕ) (session : Session) (plain : Plain) (reads : ℕ → List ℕ) (written new_written : List ℕ)
-    → IsWithin told kept line (Gives any_record (step.Print text) session) plain reads written → (IsTrue told → new_written ≡ written ++ text)
+    → IsWithin told kept line (IsDueStep any_record (step.Print text) session) plain reads written → (IsTrue told → new_written ≡ written ++ text)
     → IsWithin told kept line (StandsFor (Some given.Printed) session) plain reads new_written
 printed_within told kept line text session plain reads written new_written within put = record {
   types = within.types;
@@ -137,7 +137,7 @@ printed_within told kept line text session plain reads written new_written withi
 
 pub record IsThrough (told kept : Bool) (line : LineBegun) (session : Session) (plain : Plain) (reads : ℕ → List ℕ) (written : List ℕ) : Type 0 where
   pub waits : AwaitsLine session.waiting
-  pub stands : StandsAt session.memory (storage_of plain (records_from 16 line.turn.state.types)) line.turn.state
+  pub stands : IsAtState session.memory (storage_of plain (records_from 16 line.turn.state.types)) line.turn.state
   pub held : held_in plain line.turn.state.types ≡ held_behind line.held line.turn
   pub keeps : IsTrue kept → Keeps plain line.turn.state.types reads
   pub wrote : IsTrue told → written ≡ line.written ++ line.turn.text
@@ -146,8 +146,8 @@ pub through : (told kept : Bool) (line : LineBegun) (session : Session) (plain :
     → IsWithin told kept line (StandsFor None session) plain reads written → IsThrough told kept line session plain reads written
 through told kept line session plain reads written within = record {
   waits = within.stands.0;
-  stands = subst (λ (ts : List TypeDesc). StandsAt session.memory (storage_of plain (records_from 16 ts)) line.turn.state) types
-      (subst (λ (s : State). StandsAt session.memory (storage_of plain (records_from 16 within.types)) s) within.state done.stands);
+  stands = subst (λ (ts : List TypeDesc). IsAtState session.memory (storage_of plain (records_from 16 ts)) line.turn.state) types
+      (subst (λ (s : State). IsAtState session.memory (storage_of plain (records_from 16 within.types)) s) within.state done.stands);
   held = subst (λ (ts : List TypeDesc). held_in plain ts ≡ held_behind line.held line.turn) types behind.held_is;
   keeps = λ k. subst (λ (ts : List TypeDesc). Keeps plain ts reads) types (within.keeps k);
   wrote = λ t. within.wrote t ∙ ap (λ (l : List ℕ). line.written ++ l) (sym text);

@@ -3,7 +3,7 @@ use Rattle.std.specs.Prelude.{ℕ, ◌+◌, List, [], ◌∷◌, length}
 use Rattle.graph_model.specs.declared.entity.StoreOp.{StoreOp}
 use Rattle.graph_model.specs.Graph.{after}
 use Rattle.session_model.specs.Answer.{Answer, State, Turn, answer_from, opened, turn}
-use Rattle.session.specs.Limits.{most_bytes}
+use Rattle.session_lines.specs.Limits.{most_bytes}
 use Rattle.plain_storage.specs.Held.{PlainHeld}
 use Rattle.plain_storage.specs.Stores.{last_next_id}
 use Rattle.store_run.specs.Lines.{lines_of}

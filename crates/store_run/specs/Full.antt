@@ -1,7 +1,7 @@
 -- What a line is to keep, where the log for it is over its limit.
 use Rattle.std.specs.Prelude.{◌⊎◌, ℕ, ◌<◌, List, [], ◌∷◌, length}
 use Rattle.session_model.specs.Answer.{State, Turn, turn}
-use Rattle.session.specs.Limits.{most_bytes}
+use Rattle.session_lines.specs.Limits.{most_bytes}
 use Rattle.plain_storage.specs.Logs.{IsOverLimit}
 
 -- the turn makes a store, and the log of stores is over its limit

@@ -1,6 +1,6 @@
 -- How far a script is served.
 use Rattle.std.specs.Prelude.{◌≡◌, ◌≢◌, ℕ, Bool, List, ◌++◌, take}
-use Rattle.session.specs.declared.session.Session.{Session}
+use Rattle.session.specs.Sessions.{SessionView as Session}
 use Rattle.plain_storage.specs.Held.{PlainHeld}
 use Rattle.plain_storage.specs.Images.{EachPair}
 use Rattle.plain_storage.specs.Keeping.{HoldsEither, Keeps, Plain, held_in}

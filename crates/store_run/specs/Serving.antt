@@ -3,9 +3,8 @@ use Rattle.std.specs.Prelude.{◌≡◌, ◌≢◌, ◌<◌, ℕ, Bool, List, []
 use Rattle.type_dictionary.specs.Records.{records_from}
 use Rattle.session_model.specs.Answer.{State, Turn}
 use Rattle.session.specs.Dealing.{AwaitsLine}
-use Rattle.session.specs.Stands.{StandsAt}
-use Rattle.session.specs.Steady.{IsSteady}
-use Rattle.session.specs.declared.session.Session.{Session}
+use Rattle.session_lines.specs.Stands.{IsAtState}
+use Rattle.session.specs.Sessions.{SessionView as Session}
 use Rattle.plain_storage.specs.Held.{IsPlainStored, PlainHeld}
 use Rattle.plain_storage.specs.Images.{EachPair}
 use Rattle.plain_storage.specs.Keeping.{HoldsEither, Plain, storage_of}
@@ -15,11 +14,10 @@ use Rattle.store_run.specs.Run.{EndsLine}
 use Rattle.store_run.specs.declared.stop.Stop.{Stop}
 use Rattle.store_run.specs.declared.stop.Stop.TheVariants.{WriteFault, Full}
 
--- the session is steady and waits for a line, and stands over the storage at this state
+-- the session waits for a line, and stands over the storage at this state
 pub record IsAt (session : Session) (plain : Plain) (state : State) : Type 0 where
-  pub steady : IsSteady session
   pub waits : AwaitsLine session.waiting
-  pub stands : StandsAt session.memory (storage_of plain (records_from 16 state.types)) state
+  pub stands : IsAtState session.memory (storage_of plain (records_from 16 state.types)) state
 
 -- A run ends within a line, or right behind its answer. What was put is a front of its answer, of whole lines unless the sink failed. Each image holds what was held before, or what is held behind the line; where a byte was put, the latter.
 pub record IsTurnCut (turn : Turn) (held : PlainHeld) (stop : Stop) (written0 written : List ℕ) (reads : ℕ → List ℕ) (leaves : ℕ → List ℕ → Bool) : Type 0 where

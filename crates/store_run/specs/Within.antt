@@ -10,9 +10,9 @@ use Rattle.session_model.specs.Answer.{Turn}
 use Rattle.session.specs.Dealing.{AwaitsLine, IsDone, MayGive}
 use Rattle.session.specs.declared.session.Given.{Given}
 use Rattle.session.specs.declared.session.Given.TheVariants as given
-use Rattle.session.specs.declared.session.Session.{Session}
-use Rattle.session.specs.declared.session.Turn.{Turn as Step}
-use Rattle.session.specs.declared.session.Turn.TheVariants as step
+use Rattle.session.specs.Sessions.{SessionView as Session}
+use Rattle.session.specs.declared.session.SessionStep.{SessionStep as Step}
+use Rattle.session.specs.declared.session.SessionStep.TheVariants as step
 use Rattle.plain_storage.specs.Held.{IsSoundGraph, PlainHeld}
 use Rattle.plain_storage.specs.Keeping.{Keeps, MayServe, Plain, held_in, storage_of}
 use Rattle.store_run.specs.Answer.{held_behind}

@@ -1,7 +1,7 @@
 // Laws on what lines are answered.
 ghost use Rattle.std.specs.Prelude.{◌≡◌, ◌<◌, [], ◌∷◌, ◌++◌, ℕ, List, length};
 ghost use Rattle.session_model.specs.Answer.{State, turn};
-ghost use Rattle.session.specs.Limits.{most_bytes};
+ghost use Rattle.session_lines.specs.Limits.{most_bytes};
 ghost use Rattle.store_run.specs.Acknowledged.{count_stored};
 
 /// Every answer is made of whole lines. One begins with `stored ` exactly where a store was made, and it is the last.

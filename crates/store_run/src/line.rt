@@ -1,11 +1,11 @@
 // One line is answered.
 ghost use Rattle.std.specs.Prelude.{◌≡◌, ◌<◌, ◌≤◌, ◌++◌, ℕ, Bool, List, IsTrue, IfOk, OnOk, IfErr, IsErrOf};
 ghost use Rattle.store_io.specs.Disk.{Rose};
-ghost use Rattle.session.specs.Dealing.{Gives};
-ghost use Rattle.session.specs.Limits.{most_bytes};
-ghost use Rattle.session.specs.Steps.{steps_left};
-ghost use Rattle.session.specs.declared.session.Session.{Session as AnySession};
-ghost use Rattle.session_model.specs.Answer.{State, Turn as TurnDue, turn};
+ghost use Rattle.session.specs.Dealing.{IsDueStep};
+ghost use Rattle.session_lines.specs.Limits.{most_bytes};
+ghost use Rattle.session_lines.specs.Steps.{steps_left};
+ghost use Rattle.session.specs.Sessions.{SessionView as AnySession};
+ghost use Rattle.session_model.specs.Answer.{State, Turn, turn};
 ghost use Rattle.plain_storage.specs.Images.{AreClean, OtherFilesStay};
 ghost use Rattle.plain_storage.specs.Keeping.{AreOpen, Keeps, held_in, storage_of};
 ghost use Rattle.plain_storage.specs.Logs.{HasFullLog};
@@ -16,13 +16,13 @@ ghost use Rattle.store_run.specs.Within.{IsNoFarther, IsWithin, LineBegun, MayCa
 use crate::stop::Stop;
 use graph_model::Bytes;
 use plain_storage::PlainStorage;
-use session::{Given, Session, Turn};
+use session::{Given, Session, SessionStep};
 use std::alloc::Global;
 use store_io::{Disk, Sink};
 
 /// Carries out what comes next, and tells what the session is given then; `None` where the line is answered.
 fn carry_on<K: Sink, D: Disk>(
-    step: Turn,
+    step: SessionStep,
     plain: &mut PlainStorage,
     disk: &mut D,
     sink: &mut K,
@@ -30,15 +30,15 @@ fn carry_on<K: Sink, D: Disk>(
     requires may { MayCarry plain.old step }
     requires logs { IsTrue D.tells → AreOpen plain.old (D.reads disk.old) }
     ensures carried { (session : AnySession) (kept : Bool) (line : LineBegun) → (IsTrue kept → IsTrue D.tells)
-        → IsWithin K.tells kept line (Gives any_record step session) plain.old (D.reads disk.old) (K.written sink.old)
+        → IsWithin K.tells kept line (IsDueStep any_record step session) plain.old (D.reads disk.old) (K.written sink.old)
         → IfOk result (λ next. IsWithin K.tells kept line (StandsFor next session) plain.new (D.reads disk.new) (K.written sink.new)) }
-    ensures steady { (session : AnySession) (types : List (List ℕ)) (due : TurnDue) → Gives any_record step session (storage_of plain.old types) due
+    ensures steady { (session : AnySession) (types : List (List ℕ)) (due : Turn) → IsDueStep any_record step session (storage_of plain.old types) due
         → IfOk result (λ next. IsNoFarther next (steps_left session.waiting plain.old.graph) (steps_left session.waiting plain.new.graph)) }
     ensures logs { IsTrue D.tells → OnOk result (AreOpen plain.new (D.reads disk.new)) }
     ensures clean { IsTrue D.tells → AreClean (D.reads disk.old) (D.leaves disk.old) → OnOk result (AreClean (D.reads disk.new) (D.leaves disk.new)) }
     ensures others { IsTrue D.tells → OtherFilesStay (D.reads disk.old) (D.reads disk.new) (D.leaves disk.old) (D.leaves disk.new) }
     ensures stop { IsTrue K.tells → IsTrue D.tells → AreClean (D.reads disk.old) (D.leaves disk.old) → (session : AnySession) (kept : Bool) (line : LineBegun) → IsTrue kept
-        → IsWithin K.tells kept line (Gives any_record step session) plain.old (D.reads disk.old) (K.written sink.old)
+        → IsWithin K.tells kept line (IsDueStep any_record step session) plain.old (D.reads disk.old) (K.written sink.old)
         → IfErr result (λ e. IsTurnCut line.turn line.held e line.written (K.written sink.new) (D.reads disk.new) (D.leaves disk.new)) }
     ensures disk_faults { D.faults disk.old ≤ D.faults disk.new }
     ensures sink_faults { K.faults sink.old ≤ K.faults sink.new }
@@ -49,16 +49,16 @@ fn carry_on<K: Sink, D: Disk>(
     ensures not_long { IsErrOf result Stop.InputTooLong → ⊥ }
 {
     match step {
-        Turn::Ask(ask) => {
+        SessionStep::Ask(ask) => {
             let reply = plain.serve(disk, ask)?;
             Ok(Some(Given::Reply(reply)))
         }
-        Turn::Print(line) => {
+        SessionStep::Print(line) => {
             sink.put(line.as_slice())?;
             Ok(Some(Given::Printed))
         }
-        Turn::Done => Ok(None),
-        Turn::Broken { .. } => unreachable!(),
+        SessionStep::Done => Ok(None),
+        SessionStep::Broken { .. } => unreachable!(),
     }
 }
 

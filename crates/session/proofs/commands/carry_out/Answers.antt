@@ -1,7 +1,7 @@
 use Rattle.std.proofs.Common.{◌+◌, ◌*◌, length, refl, subst, arith}
 use Rattle.std.proofs.lemmas.Result.{IfOk-weaker}
-use Rattle.session.specs.Loads.{IsRead}
-use Rattle.session.proofs.Shortness.{few_steps, if_at_most_few, if_short_few}
+use Rattle.session_lines.specs.Loads.{IsRead}
+use Rattle.session_lines.proofs.Shortness.{few_steps, if_at_most_few, if_short_few}
 use Rattle.session.proofs.SteadySteps.{if_short_whole, short_whole}
 use Rattle.session.proofs.commands.carry_out.Goals as goal
 
@@ -16,8 +16,6 @@ returns-in-DeclareType c = rw c.in-DeclareType.is (record {
   known = c.declare_type.ensures.known;
   steady = c.declare_type.ensures.steady;
   whole = if_short_whole c.declare_type.result c.declare_type.ensures.short;
-  tidies = λ is. absurd (cc);
-  collects = λ is. absurd (cc);
   meets = λ is_next_type storage state admits at started. c.declare_type.ensures.meets is_next_type storage state admits at;
   few = λ storage state at. if_short_few c.declare_type.result storage.graph c.declare_type.ensures.short;
 })
@@ -27,8 +25,6 @@ returns-in-Refactor c = rw c.in-Refactor.is (record {
   known = c.refactor.ensures.known;
   steady = c.refactor.ensures.steady;
   whole = if_short_whole c.refactor.result c.refactor.ensures.short;
-  tidies = λ is. absurd (cc);
-  collects = λ is. absurd (cc);
   meets = λ is_next_type storage state admits at started. c.refactor.ensures.meets is_next_type storage state at;
   few = λ storage state at. if_short_few c.refactor.result storage.graph c.refactor.ensures.short;
 })
@@ -38,8 +34,6 @@ returns-in-New c = rw c.in-New.is (record {
   known = c.new.ensures.known;
   steady = c.new.ensures.steady;
   whole = if_short_whole c.new.result c.new.ensures.short;
-  tidies = λ is. absurd (cc);
-  collects = λ is. absurd (cc);
   meets = λ is_next_type storage state admits at started. c.new.ensures.meets is_next_type storage state at (started refl);
   few = λ storage state at. if_short_few c.new.result storage.graph c.new.ensures.short;
 })
@@ -49,8 +43,6 @@ returns-in-SetMember c = rw c.in-SetMember.is (record {
   known = c.set_member.ensures.known;
   steady = c.set_member.ensures.steady;
   whole = if_short_whole c.set_member.result c.set_member.ensures.short;
-  tidies = λ is. absurd (cc);
-  collects = λ is. absurd (cc);
   meets = λ is_next_type storage state admits at started. c.set_member.ensures.meets is_next_type storage state at (started refl) (subst IsRead c.in-SetMember.is c.requires.read).proper;
   few = λ storage state at. if_short_few c.set_member.result storage.graph c.set_member.ensures.short;
 })
@@ -60,8 +52,6 @@ returns-in-AddTo c = rw c.in-AddTo.is (record {
   known = c.add_to.ensures.known;
   steady = c.add_to.ensures.steady;
   whole = if_short_whole c.add_to.result c.add_to.ensures.short;
-  tidies = λ is. absurd (cc);
-  collects = λ is. absurd (cc);
   meets = λ is_next_type storage state admits at started. c.add_to.ensures.meets is_next_type storage state at (started refl);
   few = λ storage state at. if_short_few c.add_to.result storage.graph c.add_to.ensures.short;
 })
@@ -71,8 +61,6 @@ returns-in-CutFrom c = rw c.in-CutFrom.is (record {
   known = c.cut_from.ensures.known;
   steady = c.cut_from.ensures.steady;
   whole = if_short_whole c.cut_from.result c.cut_from.ensures.short;
-  tidies = λ is. absurd (cc);
-  collects = λ is. absurd (cc);
   meets = λ is_next_type storage state admits at started. c.cut_from.ensures.meets is_next_type storage state at (started refl);
   few = λ storage state at. if_short_few c.cut_from.result storage.graph c.cut_from.ensures.short;
 })
@@ -82,8 +70,6 @@ returns-in-SetRoot c = rw c.in-SetRoot.is (record {
   known = c.set_root.ensures.known;
   steady = c.set_root.ensures.steady;
   whole = if_short_whole c.set_root.result c.set_root.ensures.short;
-  tidies = λ is. absurd (cc);
-  collects = λ is. absurd (cc);
   meets = λ is_next_type storage state admits at started. c.set_root.ensures.meets is_next_type storage state at (started refl);
   few = λ storage state at. if_short_few c.set_root.result storage.graph c.set_root.ensures.short;
 })
@@ -93,8 +79,6 @@ returns-in-Store c = rw c.in-Store.is (record {
   known = c.store.ensures.known;
   steady = c.store.ensures.steady;
   whole = if_short_whole c.store.result c.store.ensures.short;
-  tidies = λ is. absurd (cc);
-  collects = λ is. absurd (cc);
   meets = λ is_next_type storage state admits at started. c.store.ensures.meets is_next_type storage state at (started refl);
   few = λ storage state at. if_short_few c.store.result storage.graph c.store.ensures.short;
 })
@@ -104,8 +88,6 @@ returns-in-StoreAll c = rw c.in-StoreAll.is (record {
   known = c.store_all.ensures.known;
   steady = c.store_all.ensures.steady;
   whole = if_short_whole c.store_all.result c.store_all.ensures.short;
-  tidies = λ is. absurd (cc);
-  collects = λ is. absurd (cc);
   meets = λ is_next_type storage state admits at started. c.store_all.ensures.meets is_next_type storage state at (started refl);
   few = λ storage state at. if_short_few c.store_all.result storage.graph c.store_all.ensures.short;
 })
@@ -115,8 +97,6 @@ returns-in-Show c = rw c.in-Show.is (record {
   known = IfOk-weaker c.show.result _ _ (λ outcome is. c.requires.known) c.show.ensures.short;
   steady = c.show.ensures.steady;
   whole = if_short_whole c.show.result c.show.ensures.short;
-  tidies = λ is. absurd (cc);
-  collects = λ is. absurd (cc);
   meets = λ is_next_type storage state admits at started. c.show.ensures.meets is_next_type storage state at (started refl);
   few = λ storage state at. if_short_few c.show.result storage.graph c.show.ensures.short;
 })
@@ -126,8 +106,6 @@ returns-in-Home c = rw c.in-Home.is (record {
   known = c.home.ensures.known;
   steady = c.home.ensures.steady;
   whole = if_short_whole c.home.result c.home.ensures.short;
-  tidies = λ is. absurd (cc);
-  collects = λ is. absurd (cc);
   meets = λ is_next_type storage state admits at started. c.home.ensures.meets is_next_type storage state at (started refl);
   few = λ storage state at. if_short_few c.home.result storage.graph c.home.ensures.short;
 })
@@ -137,8 +115,6 @@ returns-in-Follow c = rw c.in-Follow.is (record {
   known = c.follow.ensures.known;
   steady = c.follow.ensures.steady;
   whole = c.follow.ensures.whole;
-  tidies = λ is. absurd (cc);
-  collects = λ is. absurd (cc);
   meets = λ is_next_type storage state admits at started. c.follow.ensures.meets is_next_type storage state at (started refl);
   few = λ storage state at. if_at_most_few c.follow.result storage.graph (length storage.graph + 3) (omega arith) (c.follow.ensures.few storage state at);
 })
@@ -148,8 +124,6 @@ returns-in-Pick c = rw c.in-Pick.is (record {
   known = c.pick.ensures.known;
   steady = c.pick.ensures.steady;
   whole = if_short_whole c.pick.result c.pick.ensures.short;
-  tidies = λ is. absurd (cc);
-  collects = λ is. absurd (cc);
   meets = λ is_next_type storage state admits at started. c.pick.ensures.meets is_next_type storage state at (started refl);
   few = λ storage state at. if_short_few c.pick.result storage.graph c.pick.ensures.short;
 })
@@ -159,8 +133,6 @@ returns-in-DropName c = rw c.in-DropName.is (record {
   known = c.drop_name.ensures.known;
   steady = c.drop_name.ensures.steady;
   whole = if_short_whole c.drop_name.result c.drop_name.ensures.short;
-  tidies = λ is. absurd (cc);
-  collects = λ is. absurd (cc);
   meets = λ is_next_type storage state admits at started. c.drop_name.ensures.meets is_next_type storage state at (started refl);
   few = λ storage state at. if_short_few c.drop_name.result storage.graph c.drop_name.ensures.short;
 })
@@ -170,8 +142,6 @@ returns-in-Forget c = rw c.in-Forget.is (record {
   known = c.forget.ensures.known;
   steady = c.forget.ensures.steady;
   whole = if_short_whole c.forget.result c.forget.ensures.short;
-  tidies = λ is. absurd (cc);
-  collects = λ is. absurd (cc);
   meets = λ is_next_type storage state admits at started. c.forget.ensures.meets is_next_type storage state at (started refl);
   few = λ storage state at. if_short_few c.forget.result storage.graph c.forget.ensures.short;
 })
@@ -181,8 +151,6 @@ returns-in-Collect c = rw c.in-Collect.is (record {
   known = c.requires.known;
   steady = c.collect.ensures.steady c.args.memory.now;
   whole = short_whole c.collect.result c.collect.ensures.short;
-  tidies = λ is. absurd (cc);
-  collects = λ is. c.collect.ensures.asks;
   meets = λ is_next_type storage state admits at started. c.collect.ensures.meets is_next_type c.args.memory.now storage state at;
   few = λ storage state at. few_steps c.collect.result storage.graph c.collect.ensures.short;
 })
@@ -192,8 +160,6 @@ returns-in-Tidy c = rw c.in-Tidy.is (record {
   known = IfOk-weaker c.tidy.result _ _ (λ outcome is. c.requires.known) c.tidy.ensures.short;
   steady = c.tidy.ensures.steady c.args.memory.now;
   whole = if_short_whole c.tidy.result c.tidy.ensures.short;
-  tidies = λ is. c.tidy.ensures.asks;
-  collects = λ is. absurd (cc);
   meets = λ is_next_type storage state admits at started. c.tidy.ensures.meets is_next_type c.args.memory.now storage state at;
   few = λ storage state at. if_short_few c.tidy.result storage.graph c.tidy.ensures.short;
 })
@@ -203,8 +169,6 @@ returns-in-Export c = rw c.in-Export.is (record {
   known = IfOk-weaker c.export.result _ _ (λ outcome is. c.requires.known) c.export.ensures.steady;
   steady = c.export.ensures.steady;
   whole = c.export.ensures.whole;
-  tidies = λ is. absurd (cc);
-  collects = λ is. absurd (cc);
   meets = λ is_next_type storage state admits at started. c.export.ensures.meets is_next_type storage state at (started refl);
   few = λ storage state at. if_at_most_few c.export.result storage.graph (4 * length storage.graph + 1) (omega arith) (c.export.ensures.few storage);
 })

@@ -3,8 +3,8 @@ use Rattle.std.specs.Prelude.{IfOk}
 use Rattle.std.proofs.lemmas.Grind.{common_steps}
 use Rattle.script_text.specs.Meaning.{meant}
 use Rattle.session_model.specs.Answer.{Turn, needs_start}
-use Rattle.session.specs.Due.{Meets}
-use Rattle.session.proofs.Beginning.{comes_at_once, comes_later, has_begun, has_not_begun, root_is, second_fails}
+use Rattle.session_lines.specs.Due.{Meets}
+use Rattle.session.proofs.Beginning.{comes_at_once, comes_later, has_begun, has_not_begun, root_is}
 use Rattle.session.proofs.commands.take_command.Goals as goal
 
 pub returns-then-not-must_begin : goal.returns-then-not-must_begin
@@ -15,8 +15,6 @@ returns-then-not-must_begin c =
       known = c.carry_out.ensures.known;
       steady = c.carry_out.ensures.steady;
       whole = c.carry_out.ensures.whole;
-      tidies = λ is begun. c.carry_out.ensures.tidies is;
-      collects = λ is begun. c.carry_out.ensures.collects is;
       meets = λ is_next_type storage state admits at.
           subst (λ (t : Turn). IfOk c.carry_out.result (λ o. Meets is_next_type o c.carry_out.new.memory storage t)) (sym (comes_at_once c.args.memory.now storage state (meant c.args.command) at now))
           (c.carry_out.ensures.meets is_next_type storage state admits at (has_begun c.args.memory.now storage state (meant c.args.command) at now));
@@ -30,8 +28,6 @@ returns-then-memory c =
       known = c.load_root.ensures.known;
       steady = c.load_root.ensures.steady;
       whole = c.load_root.ensures.whole;
-      tidies = λ is begun. absurd (let unbegun = second_fails (needs_start (meant c.args.command)) c.args.memory.now.started later in cc);
-      collects = λ is begun. absurd (let unbegun = second_fails (needs_start (meant c.args.command)) c.args.memory.now.started later in cc);
       meets = λ is_next_type storage state admits at.
           subst (λ (t : Turn). IfOk c.load_root.result (λ o. Meets is_next_type o c.load_root.new.memory storage t)) (sym (comes_later c.args.memory.now storage state (meant c.args.command) at later))
           (c.load_root.ensures.meets is_next_type storage state at (has_not_begun c.args.memory.now storage state (meant c.args.command) at later)
@@ -46,8 +42,6 @@ returns c =
       known = c.carry_out-2.ensures.known;
       steady = c.carry_out-2.ensures.steady;
       whole = c.carry_out-2.ensures.whole;
-      tidies = λ is begun. absurd (let unbegun = second_fails (needs_start (meant c.args.command)) c.args.memory.now.started later in cc);
-      collects = λ is begun. absurd (let unbegun = second_fails (needs_start (meant c.args.command)) c.args.memory.now.started later in cc);
       meets = λ is_next_type storage state admits at.
           let begun = c.in_ok-make_root.ensures.stands storage state at (has_not_begun c.args.memory.now storage state (meant c.args.command) at later)
           (root_is c.args.memory.now storage state (meant c.args.command) false at later c.if-memory.false) in

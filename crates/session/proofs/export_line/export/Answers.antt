@@ -1,7 +1,7 @@
 use Rattle.std.proofs.Common.{[], ◌∙◌, refl, sym}
 use Rattle.session_model.specs.Answer.{export_turn}
 use Rattle.session.proofs.ExportAsks.{rest_at_first}
-use Rattle.session.proofs.ExportCounts.{few_at_first}
+use Rattle.session_lines.proofs.ExportCounts.{few_at_first}
 use Rattle.session.proofs.SteadySteps.{none_broken_without}
 use Rattle.session.proofs.export_line.export.Goals as goal
 

@@ -1,5 +1,5 @@
 use Rattle.std.proofs.Common.{Some, subst, sym}
-use Rattle.session.specs.Broken.{IsBrokenAt, taken_for}
+use Rattle.session_lines.specs.Broken.{IsBrokenAt, taken_for}
 use Rattle.session.proofs.export_line.export_on.Goals as goal
 
 pub returns-clause-steady : goal.returns-clause-steady

@@ -1,7 +1,7 @@
 use Rattle.std.proofs.Common.{◌≡◌, Some, ap, subst}
 use Rattle.std.specs.Prelude.{is_some}
-use Rattle.session.specs.Exports.{IsDueNext, IsExportStep}
-use Rattle.session.specs.declared.exporting.ExportStep.{ExportStep}
+use Rattle.session_lines.specs.Exports.{IsDueNext, IsExportStep}
+use Rattle.session_lines.specs.declared.exporting.ExportStep.{ExportStep}
 use Rattle.session.proofs.ExportAsks.{end_answers, line_tells, looks_awaits}
 use Rattle.session.proofs.export_line.outcome_of_step.Goals as goal
 

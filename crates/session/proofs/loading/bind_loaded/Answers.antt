@@ -1,9 +1,9 @@
 use Rattle.std.proofs.Common.{arith}
 use Rattle.std.proofs.lemmas.Result.{IfOk-weaker}
 use Rattle.session.proofs.LoadCounts.{said_steps}
-use Rattle.session.proofs.Shortness.{if_said_steady}
+use Rattle.session_lines.proofs.Shortness.{if_said_steady}
 use Rattle.session.proofs.SteadySteps.{said_whole}
-use Rattle.session.proofs.Told.{if_meets_said}
+use Rattle.session_lines.proofs.Told.{if_meets_said}
 use Rattle.session.proofs.loading.bind_loaded.Goals as goal
 
 pub bind_found-said-requires : goal.bind_found-said-requires

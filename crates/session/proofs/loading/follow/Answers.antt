@@ -3,9 +3,9 @@ use Rattle.std.proofs.lemmas.Result.{IfOk-weaker}
 use Rattle.session_model.specs.Answer.{follow_turn}
 use Rattle.session_model.proofs.Following.{follow_line_sound}
 use Rattle.session.proofs.LoadCounts.{said_steps}
-use Rattle.session.proofs.Shortness.{if_said_steady}
+use Rattle.session_lines.proofs.Shortness.{if_said_steady}
 use Rattle.session.proofs.SteadySteps.{said_whole}
-use Rattle.session.proofs.Told.{if_meets_said, says_refusal}
+use Rattle.session_lines.proofs.Told.{if_meets_said, says_refusal}
 use Rattle.session.proofs.loading.follow.Goals as goal
 
 pub bind_or_load-requires : goal.bind_or_load-requires

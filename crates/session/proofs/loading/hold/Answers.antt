@@ -1,7 +1,7 @@
 use Rattle.std.proofs.Common.{◌∙◌, true, ap, subst, sym}
 use Rattle.lazy_refs.specs.Walks.{loaded_ids}
 use Rattle.storer.specs.Gathered.{AreKnown}
-use Rattle.session.proofs.KnownLoaded.{known_loaded}
+use Rattle.session_lines.proofs.KnownLoaded.{known_loaded}
 use Rattle.session.proofs.LoadAsks.{hold_awaits}
 use Rattle.session.proofs.SteadySteps.{purpose_kept}
 use Rattle.session.proofs.loading.hold.Goals as goal

@@ -2,7 +2,7 @@ use Rattle.std.proofs.Common.{Option, Some, ap, subst, sym}
 use Rattle.std.specs.Prelude.{is_some}
 use Rattle.std.proofs.lemmas.Result.{IfOk-weaker}
 use Rattle.graph_model.specs.declared.entity.Entity.{Entity}
-use Rattle.session.specs.Broken.{IsBrokenAt, taken_for}
+use Rattle.session_lines.specs.Broken.{IsBrokenAt, taken_for}
 use Rattle.session.proofs.LoadCounts.{if_below, steps_fall}
 use Rattle.session.proofs.LoadTurns.{entity_given, takes_next, walk_goes_on}
 use Rattle.session.proofs.SteadySteps.{broken_next}

@@ -2,7 +2,7 @@ use Rattle.std.proofs.Common.{◌∙◌, refl, subst}
 use Rattle.std.proofs.lemmas.Result.{IfOk-weaker}
 use Rattle.lazy_refs.specs.declared.step.LoadStep.{LoadStep}
 use Rattle.lazy_refs.specs.declared.step.LoadStep.TheVariants as steps
-use Rattle.session.specs.Steady.{IsSteadyStep}
+use Rattle.session_lines.specs.Steady.{IsSteadyStep}
 use Rattle.session.proofs.LoadAsks.{ends_by, is_last, look_awaits}
 use Rattle.session.proofs.LoadCounts.{last_are_steps}
 use Rattle.session.proofs.SteadySteps.{typed_end}

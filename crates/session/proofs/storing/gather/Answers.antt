@@ -1,6 +1,6 @@
 use Rattle.std.proofs.Common.{sym}
 use Rattle.session_model.specs.Answer.{gathered_records}
-use Rattle.session.specs.Limits.{most_bytes}
+use Rattle.session_lines.specs.Limits.{most_bytes}
 use Rattle.session.specs.StoreAsks.{gathered_by}
 use Rattle.session.proofs.BigStores.{big_alone}
 use Rattle.session.proofs.storing.gather.Goals as goal

@@ -1,9 +1,9 @@
 use Rattle.session_model.specs.Answer.{store_turn}
-use Rattle.session.specs.Limits.{most_bytes}
+use Rattle.session_lines.specs.Limits.{most_bytes}
 use Rattle.session.specs.StoreAsks.{gathered_by}
 use Rattle.std.proofs.Common.{Err}
 use Rattle.session.proofs.StoreLines.{gathered_refusal}
-use Rattle.session.proofs.Told.{if_meets_said, says_refusal}
+use Rattle.session_lines.proofs.Told.{if_meets_said, says_refusal}
 use Rattle.session.proofs.storing.store_by.Goals as goal
 
 pub returns-in-Ok-clause-meets : goal.returns-in-Ok-clause-meets

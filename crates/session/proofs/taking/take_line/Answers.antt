@@ -1,24 +1,14 @@
 use Rattle.std.proofs.Common.{◌≡◌, IfOk, Some, ap, ◌∙◌, subst, sym}
 use Rattle.session_model.specs.Answer.{Turn}
-use Rattle.session_model.specs.Commands.{Collect, Tidy, command_of}
+use Rattle.session_model.specs.Commands.{command_of}
 use Rattle.script_text.specs.Meaning.{meant}
-use Rattle.session.specs.Due.{Meets}
-use Rattle.session.specs.Limits.{most_bytes}
+use Rattle.session_lines.specs.Due.{Meets}
+use Rattle.session_lines.specs.Limits.{most_bytes}
 use Rattle.session.proofs.ReadLines.{bad_line, is_read, turn_read}
 use Rattle.session.proofs.taking.take_line.Goals as goal
 
 pub take_command-requires-clause-read : goal.take_command-requires-clause-read
 take_command-requires-clause-read c = is_read c.as_slice.result.now c.in-Ok.command c.in-Ok.ensures.found
-
-pub returns-in-Ok-clause-tidies : goal.returns-in-Ok-clause-tidies
-returns-in-Ok-clause-tidies c = λ is begun.
-    let found : command_of c.args.text.now ≡ Some (meant c.in-Ok.command) = ap command_of (sym c.as_slice.ensures) ∙ c.in-Ok.ensures.found in
-    c.take_command.ensures.tidies (cc) begun
-
-pub returns-in-Ok-clause-collects : goal.returns-in-Ok-clause-collects
-returns-in-Ok-clause-collects c = λ is begun.
-    let found : command_of c.args.text.now ≡ Some (meant c.in-Ok.command) = ap command_of (sym c.as_slice.ensures) ∙ c.in-Ok.ensures.found in
-    c.take_command.ensures.collects (cc) begun
 
 pub returns-in-Ok-clause-meets : goal.returns-in-Ok-clause-meets
 returns-in-Ok-clause-meets c = λ is_next_type storage due admits begins.
@@ -26,16 +16,6 @@ returns-in-Ok-clause-meets c = λ is_next_type storage due admits begins.
     subst (λ (t : Turn). IfOk c.take_command.result (λ outcome. Meets is_next_type outcome c.take_command.new.memory storage t))
     (sym (begins.due_is ∙ turn_read most_bytes begins.state c.args.text.now (Some (meant c.in-Ok.command)) found))
     (c.take_command.ensures.meets is_next_type storage begins.state admits begins.stands)
-
-pub returns-in_ok-refusal_line-in-Err-BadLine-clause-tidies : goal.returns-in_ok-refusal_line-in-Err-BadLine-clause-tidies
-returns-in_ok-refusal_line-in-Err-BadLine-clause-tidies c =
-    let fault = rw (c.in-Err-BadLine.field-0-is, c.as_slice.ensures) at c.in-Err-BadLine.ensures.fault in
-    λ is begun. absurd (fault.0 (Tidy, is))
-
-pub returns-in_ok-refusal_line-in-Err-BadLine-clause-collects : goal.returns-in_ok-refusal_line-in-Err-BadLine-clause-collects
-returns-in_ok-refusal_line-in-Err-BadLine-clause-collects c =
-    let fault = rw (c.in-Err-BadLine.field-0-is, c.as_slice.ensures) at c.in-Err-BadLine.ensures.fault in
-    λ is begun. absurd (fault.0 (Collect, is))
 
 pub returns-in_ok-refusal_line-in-Err-BadLine-clause-meets : goal.returns-in_ok-refusal_line-in-Err-BadLine-clause-meets
 returns-in_ok-refusal_line-in-Err-BadLine-clause-meets c =

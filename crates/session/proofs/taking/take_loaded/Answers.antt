@@ -1,7 +1,7 @@
 use Rattle.std.proofs.Common.{subst}
 use Rattle.graph_model.specs.declared.ask.Reply.{Reply}
-use Rattle.session.specs.Due.{Replied}
-use Rattle.session.specs.declared.outcome.Phase.TheVariants as phases
+use Rattle.session_lines.specs.Due.{Replied}
+use Rattle.session_lines.specs.declared.outcome.Phase.TheVariants as phases
 use Rattle.session.proofs.taking.take_loaded.Goals as goal
 
 pub returns-clause-meets : goal.returns-clause-meets

@@ -1,6 +1,6 @@
 use Rattle.std.proofs.Common.{subst}
-use Rattle.session.specs.Due.{Replied}
-use Rattle.session.specs.declared.outcome.Phase.{Phase}
+use Rattle.session_lines.specs.Due.{Replied}
+use Rattle.session_lines.specs.declared.outcome.Phase.{Phase}
 use Rattle.session.proofs.taking.take_reply.Goals as goal
 
 pub returns-in-Storing-clause-steady : goal.returns-in-Storing-clause-steady

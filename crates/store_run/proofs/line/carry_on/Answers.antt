@@ -1,8 +1,8 @@
 -- What comes next is carried out, or the run ends within the line.
 use Rattle.std.proofs.Common.{◌≡◌, ◌++◌, List, ℕ, take, refl, subst}
 use Rattle.graph_model.specs.declared.ask.StorageFault.TheVariants as storage
-use Rattle.session.specs.Dealing.{Gives}
-use Rattle.session.specs.declared.session.Turn.{Turn as Step}
+use Rattle.session.specs.Dealing.{IsDueStep}
+use Rattle.session.specs.declared.session.SessionStep.{SessionStep as Step}
 use Rattle.plain_storage.specs.Keeping.{storage_of, types_with}
 use Rattle.plain_storage.specs.Logs.{HasFullLog}
 use Rattle.store_run.specs.Faults.{storage_stop}
@@ -19,13 +19,13 @@ pub returns-in_ok-reply-in-Ask-clause-carried : goal.returns-in_ok-reply-in-Ask-
 returns-in_ok-reply-in-Ask-clause-carried g c session kept line tells within =
     let now = g.D.Disk.reads c.args.disk.now in
     let written = g.K.Sink.written c.args.sink.now in
-    let asked = subst (λ (s : Step). IsWithin g.K.Sink.tells kept line (Gives any_record s session) c.args.plain.now now written) c.in-Ask.is within in
+    let asked = subst (λ (s : Step). IsWithin g.K.Sink.tells kept line (IsDueStep any_record s session) c.args.plain.now now written) c.in-Ask.is within in
     served_within g.K.Sink.tells kept line c.in-Ask.ask session c.args.plain.now c.serve.new.self now (g.D.Disk.reads c.serve.new.disk) written c.in_ok-reply-in-Ask.reply asked
     c.in_ok-reply-in-Ask.ensures.served (λ k. c.in_ok-reply-in-Ask.ensures.keeps (tells k))
 
 pub returns-in_ok-reply-in-Ask-clause-steady : goal.returns-in_ok-reply-in-Ask-clause-steady
 returns-in_ok-reply-in-Ask-clause-steady g c session types due gives =
-    let asks = subst (λ (s : Step). Gives any_record s session (storage_of c.args.plain.now types) due) c.in-Ask.is gives in
+    let asks = subst (λ (s : Step). IsDueStep any_record s session (storage_of c.args.plain.now types) due) c.in-Ask.is gives in
     asks.steady c.in_ok-reply-in-Ask.reply (storage_of c.serve.new.self (types_with c.in-Ask.ask types)) (c.in_ok-reply-in-Ask.ensures.served types)
 
 pub returns-in_ok-put-in-Print-clause-carried : goal.returns-in_ok-put-in-Print-clause-carried
@@ -33,7 +33,7 @@ returns-in_ok-put-in-Print-clause-carried g c session kept line tells within =
     let now = g.D.Disk.reads c.args.disk.now in
     let written = g.K.Sink.written c.args.sink.now in
     let same : c.as_slice.result.now ≡ c.in-Print.line = cc in
-    let printed = subst (λ (s : Step). IsWithin g.K.Sink.tells kept line (Gives any_record s session) c.args.plain.now now written) c.in-Print.is within in
+    let printed = subst (λ (s : Step). IsWithin g.K.Sink.tells kept line (IsDueStep any_record s session) c.args.plain.now now written) c.in-Print.is within in
     printed_within g.K.Sink.tells kept line c.in-Print.line session c.args.plain.now now written (g.K.Sink.written c.put.new.self) printed
     (λ t. subst (λ (b : List ℕ). g.K.Sink.written c.put.new.self ≡ written ++ b) same (c.in_ok-put-in-Print.ensures.ok t))
 
@@ -42,7 +42,7 @@ returns-in_err-reply-in-Ask-clause-stop g c answers tells clean session kept lin
     let now = g.D.Disk.reads c.args.disk.now in
     let written = g.K.Sink.written c.args.sink.now in
     let fault = c.in_err-reply-in-Ask.field-0.0 in
-    let asked = subst (λ (s : Step). IsWithin g.K.Sink.tells kept line (Gives any_record s session) c.args.plain.now now written) c.in-Ask.is within in
+    let asked = subst (λ (s : Step). IsWithin g.K.Sink.tells kept line (IsDueStep any_record s session) c.args.plain.now now written) c.in-Ask.is within in
     if_stopped c.from_residual.result (storage_stop fault) (λ (e : Stop). IsTurnCut line.turn line.held e line.written written (g.D.Disk.reads c.serve.new.disk) (g.D.Disk.leaves c.serve.new.disk)) c.from_residual.ensures.1
     (ask_cut g.K.Sink.tells kept line c.in-Ask.ask session c.args.plain.now now written (g.D.Disk.reads c.serve.new.disk) (g.D.Disk.leaves c.serve.new.disk) (storage_stop fault) answers k
     (λ full. storage_full fault _ full (λ number is. c.in_err-reply-in-Ask.ensures.full tells number (failed_so fault (storage.Full number) is)))
@@ -61,7 +61,7 @@ returns-in_err-put-in-Print-clause-stop g c answers tells clean session kept lin
     let written = g.K.Sink.written c.args.sink.now in
     let failed = c.in_err-put-in-Print.ensures.err answers in
     let same : c.as_slice.result.now ≡ c.in-Print.line = cc in
-    let printed = subst (λ (s : Step). IsWithin g.K.Sink.tells kept line (Gives any_record s session) c.args.plain.now now written) c.in-Print.is within in
+    let printed = subst (λ (s : Step). IsWithin g.K.Sink.tells kept line (IsDueStep any_record s session) c.args.plain.now now written) c.in-Print.is within in
     if_stopped c.from_residual-in_err-put-in-Print.result stop.WriteFault
     (λ (e : Stop). IsTurnCut line.turn line.held e line.written (g.K.Sink.written c.put.new.self) now (g.D.Disk.leaves c.args.disk.now)) c.from_residual-in_err-put-in-Print.ensures.1
     (print_cut g.K.Sink.tells kept line c.in-Print.line session c.args.plain.now now written (g.K.Sink.written c.put.new.self)

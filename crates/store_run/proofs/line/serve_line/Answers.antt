@@ -2,9 +2,9 @@
 use Rattle.std.proofs.Common.{◌≡◌, ℕ, true, false, Option, Some, List, refl, subst, arith}
 use Rattle.type_dictionary.specs.Records.{records_from}
 use Rattle.session_model.specs.Answer.{turn}
-use Rattle.session.specs.Dealing.{Gives}
-use Rattle.session.specs.Limits.{most_bytes}
-use Rattle.session.specs.Steps.{steps_left}
+use Rattle.session.specs.Dealing.{IsDueStep}
+use Rattle.session_lines.specs.Limits.{most_bytes}
+use Rattle.session_lines.specs.Steps.{steps_left}
 use Rattle.session.specs.declared.session.Given.TheVariants as given
 use Rattle.plain_storage.specs.Keeping.{held_in, storage_of}
 use Rattle.store_run.specs.Serving.{IsTurnCut}
@@ -37,7 +37,7 @@ next-requires g c =
     let written = g.K.Sink.written c.args.sink.now in
     let reads = g.D.Disk.reads c.args.disk.now in
     let begins = line_begins false false at.0 c.args.session.now c.args.plain.now c.args.line.now c.new-text.result reads written at.1 (λ k. not_kept k) same in
-    record { steady = at.1.steady; fits = fits_within false false (begun_at at.0 c.args.plain.now c.args.line.now written) (given.Line c.new-text.result) c.args.session.now c.args.plain.now reads written begins }
+    fits_within false false (begun_at at.0 c.args.plain.now c.args.line.now written) (given.Line c.new-text.result) c.args.session.now c.args.plain.now reads written begins
 
 pub returns-in_err-step-clause-stop : goal.returns-in_err-step-clause-stop
 returns-in_err-step-clause-stop g c answers tells clean now at keeps =
@@ -58,9 +58,8 @@ steps-init g c =
     record {
       within = λ now at kept tells keeps.
           within_so g.K.Sink.tells kept (begun_at now c.args.plain.now c.args.line.now written) (StandsFor (Some (given.Line c.new-text.result)) c.args.session.now)
-          (Gives any_record c.in_ok-step.step c.next.new.self) c.args.plain.now reads written (λ storage due may. c.in_ok-step.ensures.gives any_record storage due any_admitted may)
+          (IsDueStep any_record c.in_ok-step.step c.next.new.self) c.args.plain.now reads written (λ storage due may. c.in_ok-step.ensures.gives any_record storage due any_admitted may)
           (line_begins g.K.Sink.tells kept now c.args.session.now c.args.plain.now c.args.line.now c.new-text.result reads written at keeps same);
-      steady = c.in_ok-step.ensures.steady;
       logs = c.requires.logs;
       clean = λ tells clean. clean;
       others = λ tells. record { reads = λ f a b. refl; leaves = λ f a b. refl };
@@ -96,7 +95,7 @@ next-requires-in-Some g c =
     let written = g.K.Sink.written c.carry_on.new.sink in
     let within = c.in_ok-given.ensures.carried c.steps.session false line (λ k. not_kept k) (c.steps.invariant.within at.0 at.1 false (λ k. not_kept k) (λ k. not_kept k)) in
     let given_now = subst (λ (o : Option _). IsWithin g.K.Sink.tells false line (StandsFor o c.steps.session) c.carry_on.new.plain reads written) c.in-Some.is within in
-    record { steady = c.steps.invariant.steady; fits = fits_within g.K.Sink.tells false line c.in-Some.given c.steps.session c.carry_on.new.plain reads written given_now }
+    fits_within g.K.Sink.tells false line c.in-Some.given c.steps.session c.carry_on.new.plain reads written given_now
 
 pub returns-in_err-step-2-clause-stop : goal.returns-in_err-step-2-clause-stop
 returns-in_err-step-2-clause-stop g c answers tells clean now at keeps =
@@ -132,9 +131,8 @@ steps-preserved g c = record {
       let written = g.K.Sink.written c.carry_on.new.sink in
       let within = c.in_ok-given.ensures.carried c.steps.session kept line tells (c.steps.invariant.within now at kept tells keeps) in
       let given_now = subst (λ (o : Option _). IsWithin g.K.Sink.tells kept line (StandsFor o c.steps.session) c.carry_on.new.plain reads written) c.in-Some.is within in
-      within_so g.K.Sink.tells kept line (StandsFor (Some c.in-Some.given) c.steps.session) (Gives any_record c.in_ok-step-2.step c.next-in-Some.new.self) c.carry_on.new.plain reads written
+      within_so g.K.Sink.tells kept line (StandsFor (Some c.in-Some.given) c.steps.session) (IsDueStep any_record c.in_ok-step-2.step c.next-in-Some.new.self) c.carry_on.new.plain reads written
       (λ storage due may. c.in_ok-step-2.ensures.gives any_record storage due any_admitted may) given_now;
-  steady = c.in_ok-step-2.ensures.steady;
   logs = c.in_ok-given.ensures.logs;
   clean = λ tells clean. c.in_ok-given.ensures.clean tells (c.steps.invariant.clean tells clean);
   others = λ tells. others_stay (g.D.Disk.reads c.args.disk.now) (g.D.Disk.reads c.steps.disk) (g.D.Disk.reads c.carry_on.new.disk) (g.D.Disk.leaves c.args.disk.now) (g.D.Disk.leaves c.steps.disk)
@@ -153,7 +151,7 @@ returns-clause-at g c now at =
     let within = c.in_ok-given.ensures.carried c.steps.session false line (λ k. not_kept k) (c.steps.invariant.within now at false (λ k. not_kept k) (λ k. not_kept k)) in
     let ended = through g.K.Sink.tells false line c.steps.session c.carry_on.new.plain reads written
     (subst (λ (o : Option _). IsWithin g.K.Sink.tells false line (StandsFor o c.steps.session) c.carry_on.new.plain reads written) c.in_default.is within) in
-    record { steady = c.steps.invariant.steady; waits = ended.waits; stands = ended.stands }
+    record { waits = ended.waits; stands = ended.stands }
 
 pub returns-clause-answered : goal.returns-clause-answered
 returns-clause-answered g c answers now at =

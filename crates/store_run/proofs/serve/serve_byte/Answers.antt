@@ -1,7 +1,7 @@
 -- One byte more of the script.
 use Rattle.std.proofs.Common.{[], ◌∷◌, ◌++◌, ℕ, List, subst, sym}
 use Rattle.session_model.specs.Answer.{turn}
-use Rattle.session.specs.Limits.{most_bytes}
+use Rattle.session_lines.specs.Limits.{most_bytes}
 use Rattle.plain_storage.specs.Held.{PlainHeld}
 use Rattle.plain_storage.specs.Keeping.{held_in}
 use Rattle.store_run.specs.Answer.{opened_on, state_after}

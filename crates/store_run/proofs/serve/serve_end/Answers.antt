@@ -1,7 +1,7 @@
 -- The last line is answered where it has a byte.
 use Rattle.std.proofs.Common.{[], ℕ, List, sym, subst, ◌∙◌}
 use Rattle.session_model.specs.Answer.{turn}
-use Rattle.session.specs.Limits.{most_bytes}
+use Rattle.session_lines.specs.Limits.{most_bytes}
 use Rattle.plain_storage.specs.Held.{PlainHeld}
 use Rattle.store_run.specs.Answer.{opened_on, state_after}
 use Rattle.store_run.specs.Progress.{IsPartAnswered, IsServed}

@@ -4,6 +4,7 @@ use Rattle.graph_model.specs.declared.entity.Entity.{Entity}
 use Rattle.lazy_refs.specs.Steps.{IsGiven}
 use Rattle.lazy_refs.proofs.Advancing.{asked_next, done_next}
 use Rattle.lazy_refs.proofs.Ending.{stepped}
+use Rattle.lazy_refs.proofs.Shapes.{broken_at_asked}
 use Rattle.lazy_refs.proofs.Turning.{if_ok}
 use Rattle.lazy_refs.proofs.Typing.{typed_step}
 use Rattle.lazy_refs.proofs.loading.Loading.next.Goals as goal
@@ -24,3 +25,7 @@ returns-in-Some-clause-asks c =
 pub returns-in-Some-clause-typed : goal.returns-in-Some-clause-typed
 returns-in-Some-clause-typed c = if_ok _ _ c.take.result
     (λ step t. typed_step c.args.types.now c.args.table.now c.args.registry.now.instances c.in-Some.entity c.args.self.now c.take.new.self step t c.requires.typed) c.take.ensures.step
+
+pub returns-in-Some-clause-broken : goal.returns-in-Some-clause-broken
+returns-in-Some-clause-broken c = rw c.in-Some.is
+    (if_ok _ _ c.take.result (λ step t. broken_at_asked c.args.types.now c.args.table.now c.args.registry.now.instances c.in-Some.entity c.args.self.now c.take.new.self step t) c.take.ensures.step)

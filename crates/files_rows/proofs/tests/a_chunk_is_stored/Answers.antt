@@ -1,5 +1,0 @@
-use Rattle.files_rows.proofs.OneEntity.{is_chunk}
-use Rattle.files_rows.proofs.tests.a_chunk_is_stored.Goals as goal
-
-pub store_chunk-requires-clause-whole : goal.store_chunk-requires-clause-whole
-store_chunk-requires-clause-whole g c = is_chunk

@@ -1,0 +1,17 @@
+-- Which fault was met where one is told.
+use Rattle.std.proofs.Common.{◌≡◌, ℕ, Result, Ok, Err, IsErrAnd, IsErrOf, refl}
+use Rattle.gated_log.specs.declared.opening.LogFault.{LogFault}
+use Rattle.gated_log.specs.declared.opening.LogFault.TheVariants.{Fault, Header, Cut}
+use Rattle.recovery.specs.LogFaults.{channel_log_fault}
+use Rattle.recovery.specs.declared.logs.ChannelLogFault.{ChannelLogFault}
+use Rattle.recovery.specs.declared.logs.ChannelLogFault.TheVariants as told
+
+pub cut_was : {T : Type 0} (r : Result T ChannelLogFault) (e : LogFault) (at : ℕ) → IsErrAnd r (λ f. f ≡ channel_log_fault e) → IsErrOf r (told.Log at) → e ≡ Cut at
+cut_was (Ok x) e at is was = absurd is
+cut_was (Err f) Fault at is was = cc
+cut_was (Err f) Header at is was = cc
+cut_was (Err f) (Cut k) at is was = cc
+
+pub same_fault : {T : Type 0} (r : Result T ChannelLogFault) (e d : ChannelLogFault) → IsErrAnd r (λ f. f ≡ e) → IsErrOf r d → e ≡ d
+same_fault (Ok x) e d is was = absurd is
+same_fault (Err f) e d is was = cc

@@ -1,0 +1,12 @@
+pub mod Images
+pub mod Reach
+pub mod Stored
+pub mod Disks
+pub mod Alone
+pub mod Walking
+pub mod Searching
+pub mod Indexes
+pub mod ChunkFaults
+pub mod Ranges
+pub mod LogFaults
+pub mod LogReading

@@ -1,0 +1,24 @@
+use Rattle.std.proofs.Common.{◌≡◌, true, false, [], sym, ◌∙◌, arith}
+use Rattle.std.proofs.lemmas.Grind.{common_steps}
+use Rattle.object_registry.proofs.Numbers.{contains-has}
+use Rattle.session_lines.proofs.ExportWalks.{walked_before}
+use Rattle.session_lines.proofs.exporting.next_waiting.Goals as goal
+
+pub loop-id-init : goal.loop-id-init
+loop-id-init c = λ g starts w. w
+
+pub loop-id-preserved : goal.loop-id-preserved
+loop-id-preserved c =
+    let there : c.contains.result ≡ true = grind (arith, common_steps) in
+    λ g starts w. walked_before g starts c.args.seen.now.keys c.pop.new.self.items c.in-Some.id
+    (sym (contains-has c.in-Some.id c.args.seen.now.keys) ∙ sym c.contains.ensures ∙ there) (rw c.in-Some.ensures.items at (c.loop-id.invariant g starts w))
+
+pub returns-then-not-contains : goal.returns-then-not-contains
+returns-then-not-contains c =
+    let absent : c.contains.result ≡ false = grind (arith, common_steps) in
+    λ g starts w. (sym (contains-has c.in-Some.id c.args.seen.now.keys) ∙ sym c.contains.ensures ∙ absent, rw c.in-Some.ensures.items at (c.loop-id.invariant g starts w))
+
+pub returns : goal.returns
+returns c =
+    let none : c.loop-id.waiting.items ≡ [] = grind (arith, common_steps) in
+    λ g starts w. rw none at (c.loop-id.invariant g starts w)

@@ -1,0 +1,17 @@
+pub mod Broken
+pub mod Changes
+pub mod Declarations
+pub mod Due
+pub mod ExportEnds
+pub mod Exports
+pub mod Limits
+pub mod Lines
+pub mod Loads
+pub mod Namings
+pub mod Pairings
+pub mod Places
+pub mod Refusals
+pub mod Shown
+pub mod Stands
+pub mod Steady
+pub mod Steps
