@@ -157,7 +157,7 @@ pub returns-in_default-clause-turn : goal.returns-in_default-clause-turn
 returns-in_default-clause-turn g c =
     let none = lists_row (g.D.Disk.reads c.self.inside.files.disk) c.self.inside.index.contents c.args.id ∙ ap (λ (o : Option Row). is_some o) (sym c.in_default.ensures) in
     rw (← c.self.view_is) (λ listed.
-    turn_gone g.D.Disk.tells g.D.Disk.reads g.D.Disk.faults _ c.note.new.ending c.note.new.failed c.args.id c.note.ensures.ending c.note.ensures.failed
+    turn_gone g.D.Disk.tells g.D.Disk.reads g.D.Disk.faults _ c.note.new.ending c.note.new.failed c.args.id c.self.invariant.0 c.note.ensures.ending c.note.ensures.failed
     (silent g.D.Disk.tells (λ told. false≢true (sym none ∙ listed told))))
 
 -- ---- what the disk holds
