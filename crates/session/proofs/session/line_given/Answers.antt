@@ -1,0 +1,8 @@
+-- What comes behind the line is of the memory that the line leaves.
+use Rattle.session.proofs.session.line_given.Goals as goal
+
+pub returns-clause-steady : goal.returns-clause-steady
+returns-clause-steady c = c.behind.ensures.steady c.take_line.new.memory c.in_ok-outcome.ensures.steady
+
+pub returns-clause-fits : goal.returns-clause-fits
+returns-clause-fits c = c.behind.ensures.fits c.take_line.new.memory c.in_ok-outcome.ensures.steady
