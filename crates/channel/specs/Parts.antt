@@ -1,6 +1,7 @@
 -- The records that a part of a store has, by their headers and bytes.
 use Rattle.std.specs.Prelude.{◌≡◌, ◌≤◌, ℕ, true, List, [], ◌∷◌, length, take, drop, map}
 use Rattle.std.specs.List.{AllByRecursion}
+use Rattle.graph_model.specs.Limits.{entity_limit, store_limit}
 use Rattle.graph_model.specs.Ids.{rises}
 use Rattle.graph_model.specs.Graph.{entity_size, ids}
 use Rattle.graph_model.specs.declared.entity.Record.{Record}
@@ -13,7 +14,7 @@ use Rattle.channel.specs.declared.part.Slot.{Slot}
 pub record IsStorable (r : Record) : Type 0 where
   pub some_id : 1 ≤ r.id
   pub some_type : 1 ≤ r.entity.type_id
-  pub most : entity_size r.entity ≤ 1048576
+  pub most : entity_size r.entity ≤ entity_limit
 
 -- the records whose bytes stand one after another, as long as their headers say
 abbrev pub records_in : List Header → List ℕ → List Record
@@ -30,7 +31,7 @@ IsRightRecord r = IsEntity (r.id, r.entity)
 pub record IsPart (records : List Record) : Type 0 where
   pub ordered : rises (ids records) ≡ true
   pub entities : AllByRecursion IsRightRecord records
-  pub most : length (chunk_for records) ≤ 16777216
+  pub most : length (chunk_for records) ≤ store_limit
 
 -- headers and bytes of a part
 pub record IsSpelled (headers : List Header) (bytes : List ℕ) (records : List Record) : Type 0 where

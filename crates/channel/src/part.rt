@@ -12,14 +12,11 @@ ghost use Rattle.channel.specs.Taking.{row_at, rows_behind, with_before, slot_fo
 ghost use Rattle.channel.specs.declared.part.Slot.{Slot as AnySlot};
 
 use channel_files::Place;
-use entity_form::{HEADER_BYTES, Header, write_entity};
+use entity_form::{HEADER_BYTES, Header, REF_BYTES, write_entity};
 use entity_index::{EntityIndex, Row, State};
 use graph_model::{NoMemory, Record, Records};
 use std::alloc::{AllocError, Global};
 use std::marker::Model;
-
-/// The bytes of a reference.
-const REF: usize = 8;
 
 /// An entity of a part: the numbers that it begins with, and the row that it replaced, if it did.
 #[derive(Clone, Copy, Debug)]
@@ -139,7 +136,7 @@ fn header_of(object: &Record) -> Header
     let _type_id = object.entity.type_id;
     let refs = object.entity.refs.as_slice();
     let plain = object.entity.plain.as_slice();
-    let length = HEADER_BYTES + REF * refs.len() + plain.len();
+    let length = HEADER_BYTES + REF_BYTES * refs.len() + plain.len();
     Header {
         length: length as u64,
         type_id: object.entity.type_id,

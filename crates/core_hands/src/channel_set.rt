@@ -2,10 +2,8 @@ ghost use Rattle.std.specs.Prelude.{◌≡◌, ◌<◌, ◌≤◌, [], Bool, ◌
 ghost use Rattle.std.specs.List.{list_all, range_with_len, zip};
 ghost use Rattle.graph_model.specs.Ids.{has, add, remove};
 
+use graph_model::CHANNEL_LIMIT;
 use std::marker::Model;
-
-/// The greatest number of channels.
-const CHANNEL_LIMIT: usize = 64;
 
 /// A set of channels by number, below 64, which contracts see as the list of its numbers, rising.
 #[derive(Debug, Drop)]

@@ -4,12 +4,10 @@ ghost use Rattle.core_steps.specs.Core.{new_hand, written_of};
 ghost use Rattle.core_hands.specs.OpenStores.{number_of, channels_of, is_whole, with_part};
 
 use crate::channel_set::ChannelSet;
+use core_steps::TRANSIT_LIMIT;
 use graph_model::NoMemory;
 use std::alloc::Global;
 use std::marker::Model;
-
-/// The most ids that a hand has in transit.
-const TRANSIT_LIMIT: usize = 131_072;
 
 /// The open store: its number, its channels, and those of them that have their part.
 #[derive(Debug, Drop)]

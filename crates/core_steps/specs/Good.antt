@@ -1,5 +1,6 @@
 -- What holds of each core of a run: it is sound, live, and tricolour or closed.
 use Rattle.std.specs.Prelude.{◌≡◌, ◌≢◌, ◌⊎◌, ℕ, ◌+◌, ◌≤◌, ◌<◌, ◌^◌, Bool, true, false, cond, not, ◌&&◌, ◌||◌, nat_eq, Option, Some, None, is_some, List, [], ◌∷◌, length, get_or}
+use Rattle.graph_model.specs.Limits.{id_limit}
 use Rattle.graph_model.specs.declared.entity.Entity.{Entity}
 use Rattle.graph_model.specs.Ids.{has, rises}
 use Rattle.graph_model.specs.Graph.{ids, has_edge, entity_of, lists, IsReached}
@@ -195,8 +196,8 @@ pub record ContentFits (c : Core) : Type 0 where
   pub entity : (x : ℕ) → lists (channel_of c x).table x ≡ true → entity_of (channel_of c x).table x ≡ shown c x
   pub table_home : (j x : ℕ) → j < length c.channels → lists (channel_at c.channels j).table x ≡ true → home (length c.channels) x ≡ j
   pub pins_home : (j x : ℕ) → j < length c.channels → has x (channel_at c.channels j).pins ≡ true → home (length c.channels) x ≡ j
-  pub graph_ids : (x : ℕ) → lists (graph c.book) x ≡ true → is_good_id (2 ^ 48) x ≡ true
-  pub open_ids : (x : ℕ) → lists (open_records c.book) x ≡ true → is_good_id (2 ^ 48) x ≡ true
+  pub graph_ids : (x : ℕ) → lists (graph c.book) x ≡ true → is_good_id id_limit x ≡ true
+  pub open_ids : (x : ℕ) → lists (open_records c.book) x ≡ true → is_good_id id_limit x ≡ true
 
 -- every pin is kept, and the root where the graph has it; what an open store's record leads to is kept or unwritten, and what the graph's entity of
 -- a kept id leads to is kept; an id of the open store is kept or unwritten, and kept where the graph has it

@@ -1,6 +1,7 @@
 -- Steps, runs and starts.
-use Rattle.std.specs.Prelude.{◌≡◌, ◌⊎◌, ◌↔◌, ◌≤◌, ℕ, ◌^◌, Bool, true, false, cond, ◌&&◌, nat_eq, Option, Some, None, List, [], ◌∷◌, ◌++◌, map, length, set, take, replicate, slice_get}
+use Rattle.std.specs.Prelude.{◌≡◌, ◌⊎◌, ◌↔◌, ◌≤◌, ℕ, Bool, true, false, cond, ◌&&◌, nat_eq, Option, Some, None, List, [], ◌∷◌, ◌++◌, map, length, set, take, replicate, slice_get}
 use Rattle.std.specs.List.{filter, range_with_len}
+use Rattle.graph_model.specs.Limits.{id_limit}
 use Rattle.graph_model.specs.declared.entity.Record.{Record}
 use Rattle.graph_model.specs.declared.entity.StoreOp.{StoreOp}
 use Rattle.graph_model.specs.Ids.{rises}
@@ -154,7 +155,7 @@ start g next_id m n actors format = record {
 -- a graph to start from: by rising id; empty, or with exactly the ids that its root reaches; each is 1 or from 1024 to below the next id
 pub record IsStartGraph (g : Graph) (next_id : ℕ) : Type 0 where
   pub ordered : rises (ids g) ≡ true
-  pub next_high : next_id ≤ 2 ^ 48
+  pub next_high : next_id ≤ id_limit
   pub good_ids : (x : ℕ) → lists g x ≡ true → is_good_id next_id x ≡ true
   pub exact : (g ≡ []) ⊎ ((x : ℕ) → (lists g x ≡ true) ↔ IsReached g (1 ∷ []) x)
 

@@ -3,10 +3,8 @@ ghost use Rattle.std.specs.Prelude.{◌≡◌, ◌<◌, ◌^◌};
 ghost use Rattle.core_steps.specs.Rows.{monitor_step, seeing};
 
 use crate::event::Event;
+use crate::limits::CREDIT_LIMIT;
 use crate::state::{CoreMonitor, HandState};
-
-/// The most credit that a hand may reserve.
-const CREDIT_LIMIT: u64 = 1 << 32;
 
 /// The hand sees the cycle, its closing and the ended stores.
 pub(crate) fn seen(monitor: CoreMonitor, mut hand: HandState) -> (CoreMonitor, HandState)

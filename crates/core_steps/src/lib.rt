@@ -5,6 +5,7 @@ mod counting;
 mod event;
 mod flags;
 mod laws;
+mod limits;
 mod machine;
 mod marking;
 mod permission;
@@ -24,6 +25,7 @@ pub use laws::{
     cores_stay_good, cores_stay_settled, good_cores_tell, quiet_cycles_leave_the_reached,
     runs_go_on, steps_change_one_shard, workers_leave_stores,
 };
+pub use limits::{CREDIT_LIMIT, TRANSIT_LIMIT};
 pub use machine::step;
 pub use marking::{Pair, begin_mark, deliver, mark_some};
 pub use permission::{is_valid_store, may_hold, permits};

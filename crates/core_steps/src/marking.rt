@@ -4,16 +4,11 @@ ghost use Rattle.core_steps.specs.Core.{is_marking};
 ghost use Rattle.core_steps.specs.Rows.{is_white, greyed, roots, mark_edge, mark_edges, may_mark, mark_one, deliver_one, channel_step};
 
 use crate::event::Event;
+use crate::limits::{CREDIT_LIMIT, TRANSIT_LIMIT};
 use crate::sets::edges_of;
 use crate::state::{CoreChannel, HandState, Phase, Place};
 use graph_model::{Ids, NoMemory};
 use std::alloc::Global;
-
-/// The most ids that a hand holds in transit.
-const BATCH: usize = 131_072;
-
-/// A mark takes a credit only below this limit.
-const CREDIT_LIMIT: u64 = 1 << 32;
 
 /// A channel and the hand that works on it.
 pub type Pair = (CoreChannel, HandState);
@@ -107,8 +102,8 @@ fn may_mark(channel: &CoreChannel, hand: &HandState, id: u64, edges: usize) -> b
     channel.grey.contains(id)
         && hand.credit < CREDIT_LIMIT
         && edges as u64 <= hand.credit
-        && hand.transit.len() <= BATCH
-        && edges <= BATCH - hand.transit.len()
+        && hand.transit.len() <= TRANSIT_LIMIT
+        && edges <= TRANSIT_LIMIT - hand.transit.len()
 }
 
 fn mark_one(alloc: Global, place: &Place, pair: Pair, id: u64) -> Result<Option<Pair>, NoMemory>

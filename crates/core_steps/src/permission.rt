@@ -10,25 +10,15 @@ ghost use Rattle.core_steps.specs.Steps.{permits};
 use crate::event::{Event, Step};
 use crate::sets::{edges_of, ids_of};
 use crate::state::{Book, Channels, CoreState};
-use graph_model::{Entity, Graph, Ids, NoMemory, Record, StoreOp, after};
+use graph_model::{
+    ENTITY_LIMIT, Entity, FIRST_ID, Graph, ID_LIMIT, Ids, NoMemory, ROOT_ID, Record, STORE_LIMIT, StoreOp, after,
+};
 use std::alloc::Global;
-
-/// The least id that a store may list, apart from the root's, which is 1.
-const FIRST_ID: u64 = 1024;
-
-/// The greatest next id of a store.
-const ID_LIMIT: u64 = 1 << 48;
-
-/// The most bytes that one entity takes.
-const ENTITY_LIMIT: u64 = 1 << 20;
-
-/// The most bytes that the entities of a store take together.
-const STORE_LIMIT: u64 = 1 << 24;
 
 fn is_good_id(next: u64, id: u64) -> bool
     ensures { result ≡ is_good_id next id }
 {
-    id == 1 || (FIRST_ID <= id && id < next)
+    id == ROOT_ID || (FIRST_ID <= id && id < next)
 }
 
 /// Whether the graph has an edge from `from` to `to`.
@@ -42,7 +32,7 @@ fn has_edge(alloc: Global, graph: &Graph, from: u64, to: u64) -> Result<bool, No
 fn is_held_or_root(held: &Ids, id: u64) -> bool
     ensures { result ≡ is_held_or_root held.now id }
 {
-    held.contains(id) || id == 1
+    held.contains(id) || id == ROOT_ID
 }
 
 /// Whether the graph's entity of `from`, which is held or the root, has an edge to `to`.

@@ -12,7 +12,7 @@ use graph_model::{Ids, NoMemory, Record, Records, StoreOp};
 use std::alloc::Global;
 
 /// The greatest number of begun stores after which one more may begin.
-const STORE_LIMIT: u64 = 1 << 63;
+const STORE_COUNT_LIMIT: u64 = 1 << 63;
 
 /// Whether some record's id belongs to the channel.
 fn has_part(channels: u64, records: &[Record], channel: u64) -> bool
@@ -52,7 +52,7 @@ fn may_begin(monitor: &CoreMonitor, op: &StoreOp) -> bool
     ensures { result ≡ may_begin monitor.now op.now }
 {
     monitor.stores_begun == monitor.stores_ended
-        && monitor.stores_begun <= STORE_LIMIT
+        && monitor.stores_begun <= STORE_COUNT_LIMIT
         && (monitor.format == 1 || !op.records.is_empty())
 }
 

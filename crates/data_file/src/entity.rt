@@ -3,11 +3,8 @@ ghost use Rattle.std.specs.Prelude.{◌≡◌, ◌≤◌, ◌+◌, IsTrue, lengt
 ghost use Rattle.store_io.specs.Disk.{Rose, raised};
 ghost use Rattle.data_file.specs.Headers.{BeginsWith, IsHeaderAt};
 
-use entity_form::{Header, header_at};
+use entity_form::{HEADER_BYTES, Header, header_at};
 use store_io::{Disk, DiskFailed};
-
-/// The bytes of an entity before its references.
-pub const HEADER: usize = 32;
 
 /// Why an entity was not read.
 #[derive(Clone, Copy, Debug, PartialEq, Eq)]
@@ -35,7 +32,7 @@ fn begins_with(bytes: &[u8], header: Header) -> bool
     ensures yes { IsTrue result → BeginsWith (take 32 bytes.now) header }
     ensures no { BeginsWith (take 32 bytes.now) header → IsTrue result }
 {
-    match header_at(&bytes[..HEADER], 0) {
+    match header_at(&bytes[..HEADER_BYTES], 0) {
         Some(found) => found == header,
         None => false,
     }

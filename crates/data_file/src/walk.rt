@@ -4,12 +4,9 @@ ghost use Rattle.store_io.specs.Disk.{Rose, raised};
 ghost use Rattle.data_file.specs.Headers.{IsHeaderAt};
 ghost use Rattle.data_file.specs.Rule.{is_own_id, keeps_rule, IsEntityAt};
 
-use crate::entity::HEADER;
-use entity_form::{Header, header_at};
+use entity_form::{HEADER_BYTES, Header, header_at};
+use graph_model::ENTITY_LIMIT;
 use store_io::{Disk, DiskFailed};
-
-/// The longest entity, in bytes.
-const LONGEST: u64 = 1_048_576;
 
 /// A walk along one chunk, from the place of its next entity to its end.
 #[derive(Clone, Copy, Debug, PartialEq, Eq)]
@@ -57,9 +54,9 @@ fn keeps_rule(walk: &ChunkWalk, header: Header) -> bool
 {
     let left = walk.end.min(walk.file_length) - walk.at;
     header.length <= left
-        && HEADER as u64 <= header.length
-        && header.length <= LONGEST
-        && header.count <= (header.length - HEADER as u64) / 8
+        && HEADER_BYTES as u64 <= header.length
+        && header.length <= ENTITY_LIMIT
+        && header.count <= (header.length - HEADER_BYTES as u64) / 8
         && 1 <= header.type_id
         && is_own_id(walk, header.id)
 }
@@ -78,7 +75,7 @@ fn has_room(walk: &ChunkWalk) -> bool
     ensures { IsTrue result ↔ ((walk.now.at + 32 ≤ walk.now.end) × (walk.now.at + 32 ≤ walk.now.file_length)) }
 {
     let end = walk.end.min(walk.file_length);
-    walk.at <= end && HEADER as u64 <= end - walk.at
+    walk.at <= end && HEADER_BYTES as u64 <= end - walk.at
 }
 
 /// The header at the walk's place.
@@ -93,7 +90,7 @@ fn read_header<D: Disk>(disk: &mut D, walk: &ChunkWalk) -> Result<Header, DiskFa
     ensures calm { OnOk result (D.faults disk.new ≡ D.faults disk.old) }
     ensures read_calls { D.read_calls disk.new ≡ raised (D.read_calls disk.old) }
 {
-    let mut window = [0u8; HEADER];
+    let mut window = [0u8; HEADER_BYTES];
     disk.read(walk.file as u32, walk.at, &mut window)?;
     let Some(header) = header_at(&window, 0) else {
         unreachable!()

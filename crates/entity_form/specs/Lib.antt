@@ -3,3 +3,4 @@ pub mod Reading
 pub mod Faults
 pub mod Form
 pub mod Spelling
+pub mod KnownForm

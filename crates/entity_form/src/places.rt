@@ -8,8 +8,8 @@ use field_bytes::read_u64_at;
 /// How many bytes an entity has before its references.
 pub const HEADER_BYTES: usize = 32;
 
-/// The most bytes that an entity has.
-pub const MAX_ENTITY_BYTES: u64 = 1_048_576;
+/// The bytes of a reference.
+pub const REF_BYTES: usize = 8;
 
 /// The numbers that an entity begins with.
 #[derive(Clone, Copy, Debug, PartialEq, Eq)]

@@ -9,13 +9,10 @@ ghost use Rattle.type_desc.specs.Prefixes.{Spells};
 ghost use Rattle.entity_form.specs.Spelling.{IsEntity, IsHeaderOf, numbers_bytes, entity_bytes};
 
 use crate::fault::FormFault;
-use crate::places::{HEADER_BYTES, Header, MAX_ENTITY_BYTES, header_at};
+use crate::places::{HEADER_BYTES, Header, REF_BYTES, header_at};
 use field_bytes::{read_u64_at, write_u64_at};
-use graph_model::{Bytes, Entity, Ids};
+use graph_model::{Bytes, ENTITY_LIMIT, Entity, Ids};
 use std::alloc::{AllocError, Global};
-
-/// The bytes of a reference.
-const REF: usize = 8;
 
 /// Writes numbers at a place, and answers the place behind them.
 fn put_numbers(out: &mut [u8], at: usize, numbers: &[u64]) -> usize
@@ -26,7 +23,7 @@ fn put_numbers(out: &mut [u8], at: usize, numbers: &[u64]) -> usize
     let mut place = at;
     for number in numbers {
         write_u64_at(out, place, *number);
-        place += REF;
+        place += REF_BYTES;
     }
     place
 }
@@ -53,7 +50,7 @@ pub fn write_entity(id: u64, entity: &Entity, out: &mut [u8], at: usize) -> usiz
 {
     let refs = entity.refs.as_slice();
     let plain = entity.plain.as_slice();
-    let length = HEADER_BYTES + REF * refs.len() + plain.len();
+    let length = HEADER_BYTES + REF_BYTES * refs.len() + plain.len();
     let header = [length as u64, entity.type_id, id, refs.len() as u64];
     let behind_header = put_numbers(out, at, &header);
     let behind_refs = put_numbers(out, behind_header, refs);
@@ -70,7 +67,7 @@ fn numbers_in(alloc: Global, bytes: &[u8]) -> Result<Vec<u64>, AllocError>
     let mut place = 0;
     while let Some(number) = read_u64_at(bytes, place) {
         numbers.push(number)?;
-        place += REF;
+        place += REF_BYTES;
     }
     Ok(numbers)
 }
@@ -82,10 +79,10 @@ fn is_header_of(header: &Header, length: usize) -> bool
     ensures no { IsFalse result → ¬ (IsHeaderOf header.now length) }
 {
     header.length == length as u64
-        && header.length <= MAX_ENTITY_BYTES
+        && header.length <= ENTITY_LIMIT
         && header.type_id >= 1
         && header.id >= 1
-        && header.count <= (header.length - HEADER_BYTES as u64) / REF as u64
+        && header.count <= (header.length - HEADER_BYTES as u64) / REF_BYTES as u64
 }
 
 /// The one entity that the bytes spell, and its id.
@@ -103,7 +100,7 @@ pub fn read_entity(alloc: Global, bytes: &[u8]) -> Result<(u64, Entity), FormFau
     if !is_header_of(&header, bytes.len()) {
         return Err(FormFault::Bad);
     }
-    let (refs, plain) = bytes[HEADER_BYTES..].split_at(REF * header.count as usize);
+    let (refs, plain) = bytes[HEADER_BYTES..].split_at(REF_BYTES * header.count as usize);
     let entity = Entity {
         type_id: header.type_id,
         refs: Ids::new(numbers_in(alloc, refs)?),

@@ -7,10 +7,10 @@ ghost use Rattle.entity_form.specs.Form.{Holds};
 ghost use Rattle.entity_form.specs.Values.{refs_of, plain_of, sized, value_size, entity_of, kinds_of, AreOf, IsHeld};
 
 use crate::fault::EncodeFault;
-use crate::places::{HEADER_BYTES, MAX_ENTITY_BYTES};
+use crate::places::HEADER_BYTES;
 use crate::value::{Object, Value};
 use field_bytes::{push_u32, push_u64};
-use graph_model::{Bytes, Entity, Ids};
+use graph_model::{Bytes, ENTITY_LIMIT, Entity, Ids};
 use std::alloc::{AllocError, Global};
 use type_desc::TypeDesc;
 
@@ -86,7 +86,7 @@ pub fn encode(alloc: Global, object: &Object, desc: &TypeDesc) -> Result<Entity,
 {
     let values = object.values.as_slice();
     let length = size_of(values);
-    if length > MAX_ENTITY_BYTES {
+    if length > ENTITY_LIMIT {
         return Err(EncodeFault::TooBig { length });
     }
     let mut refs = Vec::new(alloc);

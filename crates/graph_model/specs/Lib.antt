@@ -1,4 +1,5 @@
 pub mod Ids
+pub mod Limits
 pub mod Graph
 pub mod Stores
 pub mod Served

@@ -2,13 +2,14 @@
 use Rattle.std.specs.Prelude.{ℕ, ◌+◌, ◌^◌, Bool, not, ◌&&◌, ◌||◌, nat_eq, nat_le, nat_lt, List, [], ◌∷◌}
 use Rattle.std.specs.List.{list_all, list_any}
 use Rattle.graph_model.specs.Ids.{has, rises}
+use Rattle.graph_model.specs.Limits.{entity_limit, first_id, id_limit, store_limit}
 use Rattle.graph_model.specs.declared.entity.Record.{Record}
 use Rattle.graph_model.specs.declared.entity.StoreOp.{StoreOp}
 use Rattle.graph_model.specs.Graph.{Graph, edges, entity_size, lists, ids, has_edge}
 
 -- x is 1, the root, or from 1024 to below next
 abbrev pub is_good_id : ℕ → ℕ → Bool
-is_good_id next x = nat_eq x 1 || (nat_le 1024 x && nat_lt x next)
+is_good_id next x = nat_eq x 1 || (nat_le first_id x && nat_lt x next)
 
 -- x is held or is the root
 abbrev pub is_held_or_root : List ℕ → ℕ → Bool
@@ -27,7 +28,7 @@ abbrev pub is_good_record : Graph → List ℕ → StoreOp → Record → Bool
 is_good_record g held op r = is_good_id op.next_id r.id
     && ((not (lists g r.id) || is_held_or_root held r.id)
     && (list_all (is_good_edge g held op r.id) (edges r.entity)
-    && (nat_le 1 r.entity.type_id && nat_le (entity_size r.entity) 1048576)))
+    && (nat_le 1 r.entity.type_id && nat_le (entity_size r.entity) entity_limit)))
 
 -- how many bytes the entities take together
 abbrev pub total_size : List Record → ℕ
@@ -38,9 +39,9 @@ total_size (r ∷ rs) = entity_size r.entity + total_size rs
 -- the next id does not fall and is at most 2^48; the ids rise; the entities take at most 16 MiB; each record is good
 abbrev pub is_valid_store : Graph → List ℕ → ℕ → StoreOp → Bool
 is_valid_store g held next op = nat_le next op.next_id
-    && (nat_le op.next_id (2 ^ 48)
+    && (nat_le op.next_id id_limit
     && (rises (ids op.records)
-    && (nat_le (total_size op.records) 16777216
+    && (nat_le (total_size op.records) store_limit
     && list_all (is_good_record g held op) op.records)))
 
 -- some of the ids has an edge to y

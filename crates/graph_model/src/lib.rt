@@ -4,11 +4,13 @@
 mod ask;
 mod entity;
 mod graph;
+mod limits;
 mod lists;
 mod memory;
 
 pub use ask::{Ask, Reply, StorageFault};
 pub use entity::{Entity, Record, Records, StoreOp};
 pub use graph::{Graph, after, reach};
+pub use limits::{CHANNEL_LIMIT, ENTITY_LIMIT, FIRST_ID, ID_LIMIT, ROOT_ID, STORE_LIMIT};
 pub use lists::{Bytes, Ids};
 pub use memory::NoMemory;

@@ -10,16 +10,13 @@ ghost use Rattle.lazy_refs.specs.Forms.{IsReadAs};
 ghost use Rattle.lazy_refs.specs.Mappings.{AreMappings, Becomes, IsMappingBetween, IsMappingFrom, IsMappingOf, IsTyped, mapping_at};
 
 use entity_form::{DecodeFault, Object, decode};
-use graph_model::{Entity, NoMemory};
+use graph_model::{Entity, NoMemory, ROOT_ID};
 use legacy_mapping::{Plan, PlanFault, convert, plan};
 use refactor_table::RefactorTable;
 use std::alloc::Global;
 use std::collections::BTreeMap;
 use type_desc::{Text, TypeDesc};
-use type_dictionary::Dictionary;
-
-/// The id of the root, and of its type.
-const ROOT: u64 = 1;
+use type_dictionary::{Dictionary, ROOT_TYPE_ID};
 
 /// What becomes of the entities of a stored type.
 #[derive(Debug, Drop)]
@@ -62,7 +59,7 @@ pub fn read(
 ) -> Result<Option<Object>, NoMemory>
     ensures { IfOk result (IsReadAs types.now id entity.now) }
 {
-    if (entity.type_id == ROOT) != (id == ROOT) {
+    if (entity.type_id == ROOT_TYPE_ID) != (id == ROOT_ID) {
         return Ok(None);
     }
     match types.by_id(entity.type_id) {

@@ -2,10 +2,8 @@ ghost use Rattle.std.specs.Prelude.{◌≡◌, ◌<◌, ◌≤◌, length, repli
 ghost use Rattle.core_steps.specs.Rows.{all_clear, all_set};
 ghost use Rattle.mark_monitor.specs.Faults.{first_clear};
 
+use graph_model::CHANNEL_LIMIT;
 use std::marker::Model;
-
-/// The greatest number of channels.
-const CHANNEL_LIMIT: usize = 64;
 
 /// A flag for each of at most 64 channels, which contracts see as a list.
 #[derive(Debug, Drop)]

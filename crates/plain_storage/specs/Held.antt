@@ -1,13 +1,10 @@
 -- What the two files of a session's disk hold: types in file 1, and stores in file 0.
-use Rattle.std.specs.Prelude.{◌≡◌, ℕ, true, nat_eq, Some, List, [], length}
+use Rattle.std.specs.Prelude.{◌≡◌, ℕ, true, Some, List, [], length}
 use Rattle.graph_model.specs.declared.entity.Entity.{Entity}
 use Rattle.graph_model.specs.declared.entity.StoreOp.{StoreOp}
 use Rattle.graph_model.specs.Graph.{Graph, entity_of, has_edge, lists, after}
-use Rattle.entity_form.specs.Form.{Holds}
-use Rattle.entity_form.specs.Values.{kinds_of}
-use Rattle.entity_form.specs.declared.value.Value.{Value}
 use Rattle.type_desc.specs.declared.desc.TypeDesc.{TypeDesc}
-use Rattle.type_dictionary.specs.Latest.{desc_of}
+use Rattle.session_model.specs.WellFormed.{IsWellFormed}
 use Rattle.plain_storage.specs.Types.{AreTypesHeld}
 use Rattle.plain_storage.specs.Stores.{HoldsStores, last_next_id}
 
@@ -17,17 +14,9 @@ pub record PlainHeld : Type 0 where
   pub number : ℕ
   pub next_id : ℕ
 
--- the entity has the form of a known type; id 1, and no other, has the type 1
-pub record HasKnownForm (types : List TypeDesc) (x : ℕ) (entity : Entity) : Type 0 where
-  pub desc : TypeDesc
-  pub known : desc_of types entity.type_id ≡ Some desc
-  pub values : List Value
-  pub holds : Holds (kinds_of desc) entity.refs entity.plain values
-  pub root : nat_eq entity.type_id 1 ≡ nat_eq x 1
-
 -- each entity has its form, and what an edge names is there
 pub record IsSoundGraph (types : List TypeDesc) (graph : Graph) : Type 0 where
-  pub forms : (x : ℕ) (entity : Entity) → entity_of graph x ≡ Some entity → HasKnownForm types x entity
+  pub forms : (x : ℕ) (entity : Entity) → entity_of graph x ≡ Some entity → IsWellFormed types x entity
   pub whole : (x y : ℕ) → has_edge graph x y ≡ true → lists graph y ≡ true
 
 -- the images of file 0 and of file 1 hold this: types, and stores of sound entities that make the graph

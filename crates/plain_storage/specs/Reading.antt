@@ -8,7 +8,7 @@ use Rattle.graph_model.specs.declared.entity.Entity.{Entity}
 use Rattle.graph_model.specs.declared.entity.Record.{Record}
 use Rattle.graph_model.specs.declared.entity.StoreOp.{StoreOp}
 use Rattle.type_desc.specs.declared.desc.TypeDesc.{TypeDesc}
-use Rattle.plain_storage.specs.Held.{HasKnownForm}
+use Rattle.session_model.specs.WellFormed.{IsWellFormed}
 use Rattle.plain_storage.specs.Stores.{HoldsStores, record_bytes, payload_of, payloads_of_stores, IsObject, MayFollow, AllMayFollow, last_next_id}
 
 -- the records, put one after another
@@ -56,5 +56,5 @@ pub record IsRightGraph (next_id : ℕ) (graph : Graph) : Type 0 where
 
 -- the entity has its form, and what its edges name is there
 pub record IsSoundEntity (types : List TypeDesc) (graph : Graph) (x : ℕ) (entity : Entity) : Type 0 where
-  pub form : HasKnownForm types x entity
+  pub form : IsWellFormed types x entity
   pub whole : (y : ℕ) → has y (edges entity) ≡ true → lists graph y ≡ true

@@ -4,13 +4,10 @@ ghost use Rattle.std.specs.Prelude.{◌≡◌, ◌∷◌, IfOk};
 ghost use Rattle.plain_storage.specs.Serving.{IsKeptCount};
 
 use crate::tree::Tree;
-use graph_model::NoMemory;
+use graph_model::{NoMemory, ROOT_ID};
 use object_registry::{Edges, walk};
 use std::alloc::{AllocError, Global};
 use std::collections::BTreeSet;
-
-/// The id of the root.
-pub const ROOT_ID: u64 = 1;
 
 impl Edges for Tree {
     ghost graph = { λ tree. tree };

@@ -12,12 +12,12 @@ ghost use Rattle.plain_storage.specs.Keeping.{AreOpen, HoldsEither, IsNext, IsOv
 ghost use Rattle.plain_storage.specs.Logs.{IsOverLimit};
 ghost use Rattle.plain_storage.specs.Serving.{OnlyHeldChanges};
 
-use crate::counting::{ROOT_ID, count_kept};
+use crate::counting::count_kept;
 use crate::holding::{hold_all, release_all, take_all};
 use crate::keep::keep_type;
 use crate::storage::PlainStorage;
 use crate::store_keeping::{keep_store, number_due, storage_fault};
-use graph_model::{Ask, Reply, StorageFault, StoreOp};
+use graph_model::{Ask, ROOT_ID, Reply, StorageFault, StoreOp};
 use store_io::Disk;
 
 impl PlainStorage {

@@ -7,18 +7,16 @@ ghost use Rattle.graph_model.specs.Ids.{rises};
 ghost use Rattle.entity_form.specs.Form.{Holds};
 ghost use Rattle.entity_form.specs.Values.{kinds_of};
 ghost use Rattle.entity_form.specs.declared.value.Value.{Value as AnyValue};
-ghost use Rattle.plain_storage.specs.Held.{HasKnownForm, IsSoundGraph};
+ghost use Rattle.session_model.specs.WellFormed.{IsWellFormed};
+ghost use Rattle.plain_storage.specs.Held.{IsSoundGraph};
 ghost use Rattle.plain_storage.specs.Reading.{IsSoundEntity};
 
 use crate::tree::Tree;
 use entity_form::{DecodeFault, decode};
-use graph_model::{Entity, NoMemory};
+use graph_model::{Entity, NoMemory, ROOT_ID};
 use std::alloc::Global;
 use type_desc::TypeDesc;
-use type_dictionary::Dictionary;
-
-/// The id of the root, and of its type.
-const ROOT: u64 = 1;
+use type_dictionary::{Dictionary, ROOT_TYPE_ID};
 
 /// Whether the entity has the form of the type.
 fn is_formed(alloc: Global, entity: &Entity, desc: &TypeDesc) -> Result<bool, NoMemory>
@@ -39,10 +37,10 @@ fn has_known_form(
     id: u64,
     entity: &Entity,
 ) -> Result<bool, NoMemory>
-    ensures yes { IfOk result (λ formed. IsTrue formed → HasKnownForm types.now id entity.now) }
-    ensures no { IfOk result (λ formed. IsFalse formed → ¬ (HasKnownForm types.now id entity.now)) }
+    ensures yes { IfOk result (λ formed. IsTrue formed → IsWellFormed types.now id entity.now) }
+    ensures no { IfOk result (λ formed. IsFalse formed → ¬ (IsWellFormed types.now id entity.now)) }
 {
-    if (entity.type_id == ROOT) != (id == ROOT) {
+    if (entity.type_id == ROOT_TYPE_ID) != (id == ROOT_ID) {
         return Ok(false);
     }
     match types.by_id(entity.type_id) {

@@ -13,17 +13,11 @@ use crate::fault::OpenFault;
 use crate::tree::Tree;
 use entity_form::{header_at, read_entity};
 use field_bytes::read_u64_at;
-use graph_model::Record;
+use graph_model::{FIRST_ID, ID_LIMIT, ROOT_ID, Record};
 use std::alloc::Global;
 
 /// The bytes in front of the entities.
 const NUMBERS: usize = 16;
-
-/// The greatest next id.
-const LAST_ID: u64 = 1 << 48;
-
-/// The first id but that of the root.
-pub const FIRST_ID: u64 = 1024;
 
 /// How many bytes the entity has with which the bytes begin, as far as its header says.
 fn front_length(bytes: &[u8]) -> Option<usize>
@@ -56,7 +50,7 @@ fn first_entity(alloc: Global, bytes: &[u8]) -> Result<(Record, &[u8]), OpenFaul
 fn is_good(id: u64, next_id: u64) -> bool
     ensures { result ≡ is_good_id next_id id }
 {
-    id == 1 || (FIRST_ID <= id && id < next_id)
+    id == ROOT_ID || (FIRST_ID <= id && id < next_id)
 }
 
 /// Puts the entities of a store into the graph, where the bytes are objects by rising id. After a fault some are there.
@@ -95,7 +89,7 @@ fn next_of(payload: &[u8], number: u64, before: u64) -> Option<u64>
         return None;
     }
     let next_id = read_u64_at(payload, 8)?;
-    if next_id < before || next_id > LAST_ID {
+    if next_id < before || next_id > ID_LIMIT {
         return None;
     }
     Some(next_id)

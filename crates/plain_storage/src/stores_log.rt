@@ -10,9 +10,10 @@ ghost use Rattle.plain_storage.specs.Reading.{AreStores, AreStoresHeld, IsRightG
 ghost use Rattle.plain_storage.specs.Stores.{plain_header};
 
 use crate::fault::OpenFault;
-use crate::store_payload::{FIRST_ID, read_store};
+use crate::store_payload::read_store;
 use crate::tree::Tree;
 use gated_log::{Opening, begin};
+use graph_model::FIRST_ID;
 use std::alloc::Global;
 use store_io::Disk;
 

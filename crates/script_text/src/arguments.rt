@@ -27,10 +27,7 @@ use crate::utf8::rest_of_line;
 use refactor_table::RefName;
 use std::alloc::Global;
 use type_desc::fields::{byte, end, kind, name};
-use type_desc::{Member, Members, NameKind, ReadFault, Text, TypeDesc};
-
-/// The most members of a type.
-const MAX_MEMBERS: usize = 1024;
+use type_desc::{MAX_MEMBERS, Member, Members, NameKind, ReadFault, Text, TypeDesc};
 
 /// Takes `KIND:MEMBER`.
 #[tactic(auto, unfolding(crate::specs::Arguments::member_at))]

@@ -29,13 +29,14 @@ use Rattle.session_lines.specs.declared.outcome.Phase.TheVariants as phases
 use Rattle.session_lines.specs.declared.refusal.Stop.{Stop}
 use Rattle.session_lines.specs.declared.refusal.Stop.TheVariants.{Refused, NoMemory}
 use Rattle.session_lines.specs.declared.refusal.Refusal.TheVariants as refusals
-use Rattle.session.specs.declared.storing.Storer.{Storer}
-use Rattle.session.specs.declared.storing.Storer.TheVariants.{Lazy, Eager}
+use Rattle.storer.specs.Gathered.{gathered_ids}
+use Rattle.storer.specs.declared.gathering.Gathering.{Gathering}
+use Rattle.storer.specs.declared.gathering.Gathering.TheVariants.{Lazy, Eager}
 use Rattle.session_lines.specs.Due.{Awaits, Replied, stored_text, without}
 use Rattle.session_lines.specs.Limits.{most_bytes}
 use Rattle.session_lines.specs.Refusals.{IsRefusal}
 use Rattle.session_lines.specs.Stands.{Stands, IsAtState}
-use Rattle.session.specs.StoreAsks.{Gathers, IsGathered, gathered_by}
+use Rattle.session.specs.StoreAsks.{Gathers, IsGathered}
 use Rattle.session_lines.proofs.Judged.{judged_first, judged_next}
 use Rattle.session_lines.proofs.Lines.{stored_no_feed}
 use Rattle.session_lines.proofs.Told.{answers_turn}
@@ -74,93 +75,93 @@ saved_gathered hs xs = saved_same hs (ids (gathered_records hs xs)) xs (λ y the
 
 -- ---- the turn
 
-gathers_all : (storer : Storer) (hs : Instances) (x : ℕ) → IsWalked hs x (gathered_by storer hs x)
+gathers_all : (gathering : Gathering) (hs : Instances) (x : ℕ) → IsWalked hs x (gathered_ids gathering hs x)
 gathers_all Lazy hs x = lazily hs x
 gathers_all Eager hs x = eagerly hs x
 
 -- what is gathered from the object of the name
-abbrev gathered_in : Storer → State → List ℕ → List ℕ
-gathered_in storer state name = gathered_by storer state.instances (id_of state name)
+abbrev gathered_in : Gathering → State → List ℕ → List ℕ
+gathered_in gathering state name = gathered_ids gathering state.instances (id_of state name)
 
-abbrev records_in : Storer → State → List ℕ → List Record
-records_in storer state name = gathered_records state.instances (gathered_in storer state name)
+abbrev records_in : Gathering → State → List ℕ → List Record
+records_in gathering state name = gathered_records state.instances (gathered_in gathering state name)
 
-abbrev effect : Storer → State → List ℕ → Turn
-effect storer state name = stored state (gathered_in storer state name) (gathered_op state (gathered_in storer state name))
+abbrev effect : Gathering → State → List ℕ → Turn
+effect gathering state name = stored state (gathered_in gathering state name) (gathered_op state (gathered_in gathering state name))
 
-same_records : (storer : Storer) (memory : Memory) (storage : Storage) (state : State) (name : List ℕ) (start : ℕ) → Stands memory storage state → id_in memory.registry.names name ≡ Some start
-    → gathered_records memory.registry.instances (gathered_by storer memory.registry.instances start) ≡ records_in storer state name
-same_records storer memory storage state name start s named =
-    ap (λ (hs : Instances). gathered_records hs (gathered_by storer hs start)) s.instances
-    ∙ ap (λ (o : Option ℕ). gathered_records state.instances (gathered_by storer state.instances (unwrap_or o 0))) (sym named ∙ s.names name)
+same_records : (gathering : Gathering) (memory : Memory) (storage : Storage) (state : State) (name : List ℕ) (start : ℕ) → Stands memory storage state → id_in memory.registry.names name ≡ Some start
+    → gathered_records memory.registry.instances (gathered_ids gathering memory.registry.instances start) ≡ records_in gathering state name
+same_records gathering memory storage state name start s named =
+    ap (λ (hs : Instances). gathered_records hs (gathered_ids gathering hs start)) s.instances
+    ∙ ap (λ (o : Option ℕ). gathered_records state.instances (gathered_ids gathering state.instances (unwrap_or o 0))) (sym named ∙ s.names name)
 
 is_bound_by : (memory : Memory) (storage : Storage) (state : State) (name : List ℕ) (start : ℕ) → Stands memory storage state → id_in memory.registry.names name ≡ Some start → not (is_bound state name) ≡ false
 is_bound_by memory storage state name start s named = ap (λ (o : Option ℕ). not (is_some o)) (sym (s.names name) ∙ named)
 
-pub gathered_refusal : (storer : Storer) (memory : Memory) (storage : Storage) (state : State) (name : List ℕ) (stop : Stop) → IsAtState memory storage state → IsGathered storer memory name (Err stop)
-    → IsRefusal state (store_turn most_bytes state name (gathered_by storer)) stop
-gathered_refusal storer memory storage state name (Refused refusals.NoName) at none =
-    judged_first state (no_name (not (is_bound state name))) (too_big (are_too_big most_bytes (records_in storer state name)) ∷ []) (effect storer state name)
+pub gathered_refusal : (gathering : Gathering) (memory : Memory) (storage : Storage) (state : State) (name : List ℕ) (stop : Stop) → IsAtState memory storage state → IsGathered gathering memory name (Err stop)
+    → IsRefusal state (store_turn most_bytes state name (gathered_ids gathering)) stop
+gathered_refusal gathering memory storage state name (Refused refusals.NoName) at none =
+    judged_first state (no_name (not (is_bound state name))) (too_big (are_too_big most_bytes (records_in gathering state name)) ∷ []) (effect gathering state name)
     (ap (λ (o : Option ℕ). not (is_some o)) (sym (at.stands.names name) ∙ none))
-gathered_refusal storer memory storage state name (Refused refusals.TooBig) at much =
-    judged_next state (no_name (not (is_bound state name))) (too_big (are_too_big most_bytes (records_in storer state name)) ∷ []) (effect storer state name)
+gathered_refusal gathering memory storage state name (Refused refusals.TooBig) at much =
+    judged_next state (no_name (not (is_bound state name))) (too_big (are_too_big most_bytes (records_in gathering state name)) ∷ []) (effect gathering state name)
     (is_bound_by memory storage state name much.start at.stands much.named)
-    ∙ judged_first state (too_big (are_too_big most_bytes (records_in storer state name))) [] (effect storer state name)
-    (ap (are_too_big most_bytes) (sym (same_records storer memory storage state name much.start at.stands much.named)) ∙ much.big)
-gathered_refusal storer memory storage state name NoMemory at is = tt
-gathered_refusal storer memory storage state name (Refused refusals.Reserved) at is = absurd is
-gathered_refusal storer memory storage state name (Refused refusals.Duplicate) at is = absurd is
-gathered_refusal storer memory storage state name (Refused refusals.Full) at is = absurd is
-gathered_refusal storer memory storage state name (Refused refusals.NameTaken) at is = absurd is
-gathered_refusal storer memory storage state name (Refused refusals.NoType) at is = absurd is
-gathered_refusal storer memory storage state name (Refused refusals.NoMember) at is = absurd is
-gathered_refusal storer memory storage state name (Refused refusals.WrongKind) at is = absurd is
-gathered_refusal storer memory storage state name (Refused refusals.Range) at is = absurd is
-gathered_refusal storer memory storage state name (Refused refusals.NoRoot) at is = absurd is
-gathered_refusal storer memory storage state name (Refused refusals.NoTarget) at is = absurd is
-gathered_refusal storer memory storage state name (Refused refusals.BadLine) at is = absurd is
+    ∙ judged_first state (too_big (are_too_big most_bytes (records_in gathering state name))) [] (effect gathering state name)
+    (ap (are_too_big most_bytes) (sym (same_records gathering memory storage state name much.start at.stands much.named)) ∙ much.big)
+gathered_refusal gathering memory storage state name NoMemory at is = tt
+gathered_refusal gathering memory storage state name (Refused refusals.Reserved) at is = absurd is
+gathered_refusal gathering memory storage state name (Refused refusals.Duplicate) at is = absurd is
+gathered_refusal gathering memory storage state name (Refused refusals.Full) at is = absurd is
+gathered_refusal gathering memory storage state name (Refused refusals.NameTaken) at is = absurd is
+gathered_refusal gathering memory storage state name (Refused refusals.NoType) at is = absurd is
+gathered_refusal gathering memory storage state name (Refused refusals.NoMember) at is = absurd is
+gathered_refusal gathering memory storage state name (Refused refusals.WrongKind) at is = absurd is
+gathered_refusal gathering memory storage state name (Refused refusals.Range) at is = absurd is
+gathered_refusal gathering memory storage state name (Refused refusals.NoRoot) at is = absurd is
+gathered_refusal gathering memory storage state name (Refused refusals.NoTarget) at is = absurd is
+gathered_refusal gathering memory storage state name (Refused refusals.BadLine) at is = absurd is
 
 -- ---- what is gathered, as the state has it
 
-record IsDueStore (storer : Storer) (state : State) (name : List ℕ) (op : StoreOp) : Type 0 where
-  pub records : op.records ≡ records_in storer state name
-  pub op_is : op ≡ gathered_op state (gathered_in storer state name)
-  pub small : are_too_big most_bytes (records_in storer state name) ≡ false
+record IsDueStore (gathering : Gathering) (state : State) (name : List ℕ) (op : StoreOp) : Type 0 where
+  pub records : op.records ≡ records_in gathering state name
+  pub op_is : op ≡ gathered_op state (gathered_in gathering state name)
+  pub small : are_too_big most_bytes (records_in gathering state name) ≡ false
   pub here : IsHere state.instances (id_of state name)
-  pub turn_is : store_turn most_bytes state name (gathered_by storer) ≡ stored state (gathered_in storer state name) op
+  pub turn_is : store_turn most_bytes state name (gathered_ids gathering) ≡ stored state (gathered_in gathering state name) op
 
 abbrev made_op : List Record → ℕ → StoreOp
 made_op records next_id = record { records = records; next_id = next_id }
 
-due_store : (storer : Storer) (memory : Memory) (storage : Storage) (state : State) (name : List ℕ) (op : StoreOp) → IsAtState memory storage state → state.started ≡ true → Gathers storer memory name op
-    → IsDueStore storer state name op
-due_store storer memory storage state name op at started g = record {
+due_store : (gathering : Gathering) (memory : Memory) (storage : Storage) (state : State) (name : List ℕ) (op : StoreOp) → IsAtState memory storage state → state.started ≡ true → Gathers gathering memory name op
+    → IsDueStore gathering state name op
+due_store gathering memory storage state name op at started g = record {
   records = records;
   op_is = op_is;
   small = small;
   here = subst (λ (x : ℕ). IsHere state.instances x) (ap (λ (o : Option ℕ). unwrap_or o 0) (sym found)) (at.stands.sound.bound started name g.start found);
-  turn_is = judged_next state (no_name (not (is_bound state name))) (too_big (are_too_big most_bytes (records_in storer state name)) ∷ []) (effect storer state name)
+  turn_is = judged_next state (no_name (not (is_bound state name))) (too_big (are_too_big most_bytes (records_in gathering state name)) ∷ []) (effect gathering state name)
       (is_bound_by memory storage state name g.start at.stands g.named)
-      ∙ (judged_next state (too_big (are_too_big most_bytes (records_in storer state name))) [] (effect storer state name) small ∙ ap (stored state (gathered_in storer state name)) (sym op_is));
+      ∙ (judged_next state (too_big (are_too_big most_bytes (records_in gathering state name))) [] (effect gathering state name) small ∙ ap (stored state (gathered_in gathering state name)) (sym op_is));
 }
   where
     found : id_in state.names name ≡ Some g.start
     found = sym (at.stands.names name) ∙ g.named
 
-    records : op.records ≡ records_in storer state name
-    records = g.records ∙ same_records storer memory storage state name g.start at.stands g.named
+    records : op.records ≡ records_in gathering state name
+    records = g.records ∙ same_records gathering memory storage state name g.start at.stands g.named
 
-    op_is : op ≡ gathered_op state (gathered_in storer state name)
-    op_is = ap (λ (rs : List Record). made_op rs op.next_id) records ∙ ap (made_op (records_in storer state name)) (g.next_id ∙ at.stands.next_id)
+    op_is : op ≡ gathered_op state (gathered_in gathering state name)
+    op_is = ap (λ (rs : List Record). made_op rs op.next_id) records ∙ ap (made_op (records_in gathering state name)) (g.next_id ∙ at.stands.next_id)
 
-    small : are_too_big most_bytes (records_in storer state name) ≡ false
+    small : are_too_big most_bytes (records_in gathering state name) ≡ false
     small = ap (are_too_big most_bytes) (sym records) ∙ g.fits
 
 -- ---- the ask
 
-may_store : (is_next_type : List (List ℕ) → List ℕ → Bool) (storer : Storer) (memory : Memory) (storage : Storage) (state : State) (name : List ℕ) (op : StoreOp) → IsAtState memory storage state
-    → IsDueStore storer state name op → MayStore storage op
-may_store is_next_type storer memory storage state name op at d = ask_stays_allowed is_next_type by_model storage (asks.Store op) same may
+may_store : (is_next_type : List (List ℕ) → List ℕ → Bool) (gathering : Gathering) (memory : Memory) (storage : Storage) (state : State) (name : List ℕ) (op : StoreOp) → IsAtState memory storage state
+    → IsDueStore gathering state name op → MayStore storage op
+may_store is_next_type gathering memory storage state name op at d = ask_stays_allowed is_next_type by_model storage (asks.Store op) same may
   where
     by_model : Storage
     by_model = record storage { graph = state.graph; held = held_ids state.instances }
@@ -170,16 +171,16 @@ may_store is_next_type storer memory storage state name op at d = ask_stays_allo
 
     may : MayStore by_model op
     may = record {
-      not_empty = subst (λ (rs : List Record). 0 < length rs) (sym d.records) (gathered_is_some state.instances (id_of state name) (gathered_in storer state name) (gathers_all storer state.instances (id_of state name)) d.here);
+      not_empty = subst (λ (rs : List Record). 0 < length rs) (sym d.records) (gathered_is_some state.instances (id_of state name) (gathered_in gathering state name) (gathers_all gathering state.instances (id_of state name)) d.here);
       valid = subst (λ (o : StoreOp). is_valid_store state.graph (held_ids state.instances) storage.next_id o ≡ true) (sym d.op_is)
-          (gathered_is_valid state at.stands.sound (id_of state name) (gathered_in storer state name) (gathers_all storer state.instances (id_of state name)) most_bytes storage.next_id d.small (omega arith) at.stands.stored_next);
+          (gathered_is_valid state at.stands.sound (id_of state name) (gathered_in gathering state name) (gathers_all gathering state.instances (id_of state name)) most_bytes storage.next_id d.small (omega arith) at.stands.stored_next);
     }
 
 -- where the storage made the store, both stand at the state after it
-stands_stored : (storer : Storer) (memory : Memory) (registry : Registered) (storage new : Storage) (state : State) (name : List ℕ) (op : StoreOp) (reply : Reply) → IsAtState memory storage state → state.started ≡ true
-    → IsDueStore storer state name op → op.next_id ≡ memory.next_id → registry.names ≡ memory.registry.names → registry.instances ≡ saved_instances memory.registry.instances (ids op.records)
-    → Stores storage op reply new → IsAtState (record memory { registry = registry }) new (stored state (gathered_in storer state name) op).state
-stands_stored storer memory registry storage new state name op reply at started d next names saved served = record {
+stands_stored : (gathering : Gathering) (memory : Memory) (registry : Registered) (storage new : Storage) (state : State) (name : List ℕ) (op : StoreOp) (reply : Reply) → IsAtState memory storage state → state.started ≡ true
+    → IsDueStore gathering state name op → op.next_id ≡ memory.next_id → registry.names ≡ memory.registry.names → registry.instances ≡ saved_instances memory.registry.instances (ids op.records)
+    → Stores storage op reply new → IsAtState (record memory { registry = registry }) new (stored state (gathered_in gathering state name) op).state
+stands_stored gathering memory registry storage new state name op reply at started d next names saved served = record {
   stands = record {
     types = at.stands.types;
     pairs = at.stands.pairs;
@@ -188,33 +189,33 @@ stands_stored storer memory registry storage new state name op reply at started 
     next_id = at.stands.next_id;
     started = at.stands.started;
     rooted = λ e. absurd (let t = started in cc);
-    sound = subst (λ (t : Turn). IsSound t.state) d.turn_is (store_line_sound most_bytes state name (gathered_by storer) (gathers_all storer) at.stands.sound started);
+    sound = subst (λ (t : Turn). IsSound t.state) d.turn_is (store_line_sound most_bytes state name (gathered_ids gathering) (gathers_all gathering) at.stands.sound started);
     graph = served.graph ∙ ap (put_all op.records) at.stands.graph;
     number = served.number ∙ ap (λ (n : ℕ). n + 1) at.stands.number;
     stored_next = (let a = served.next_id ∙ (next ∙ at.stands.next_id) in omega arith);
     records = served.types ∙ at.stands.records;
   };
   held = λ y. served.held y ∙ (ap (λ (rs : List Record). has y (ids rs) || has y storage.held) d.records
-      ∙ (ap (λ (b : Bool). has y (ids (records_in storer state name)) || b) (at.held y) ∙ sym (held_stored state.instances (gathered_in storer state name) at.stands.sound.order y)));
+      ∙ (ap (λ (b : Bool). has y (ids (records_in gathering state name)) || b) (at.held y) ∙ sym (held_stored state.instances (gathered_in gathering state name) at.stands.sound.order y)));
 }
   where
-    instances : registry.instances ≡ saved_instances state.instances (gathered_in storer state name)
+    instances : registry.instances ≡ saved_instances state.instances (gathered_in gathering state name)
     instances = saved ∙ (ap (λ (hs : Instances). saved_instances hs (ids op.records)) at.stands.instances
-        ∙ (ap (λ (rs : List Record). saved_instances state.instances (ids rs)) d.records ∙ saved_gathered state.instances (gathered_in storer state name)))
+        ∙ (ap (λ (rs : List Record). saved_instances state.instances (ids rs)) d.records ∙ saved_gathered state.instances (gathered_in gathering state name)))
 
-pub store_awaits : (is_next_type : List (List ℕ) → List ℕ → Bool) (storer : Storer) (memory : Memory) (registry : Registered) (op : StoreOp) (count : ℕ) (name : List ℕ) (storage : Storage) (state : State)
-    → Gathers storer memory name op → IsAtState memory storage state → state.started ≡ true
+pub store_awaits : (is_next_type : List (List ℕ) → List ℕ → Bool) (gathering : Gathering) (memory : Memory) (registry : Registered) (op : StoreOp) (count : ℕ) (name : List ℕ) (storage : Storage) (state : State)
+    → Gathers gathering memory name op → IsAtState memory storage state → state.started ≡ true
     → registry.names ≡ memory.registry.names → registry.instances ≡ saved_instances memory.registry.instances (ids op.records) → count ≡ length op.records
-    → Awaits is_next_type (asks.Store op) (phases.Storing count) (record memory { registry = registry }) storage (store_turn most_bytes state name (gathered_by storer))
-store_awaits is_next_type storer memory registry op count name storage state g at started names saved counted =
+    → Awaits is_next_type (asks.Store op) (phases.Storing count) (record memory { registry = registry }) storage (store_turn most_bytes state name (gathered_ids gathering))
+store_awaits is_next_type gathering memory registry op count name storage state g at started names saved counted =
     subst (λ (t : Turn). Awaits is_next_type (asks.Store op) (phases.Storing count) (record memory { registry = registry }) storage t) (sym d.turn_is)
-    (record { may = may_store is_next_type storer memory storage state name op at d; due = refl; suits = counted; then_ = replied })
+    (record { may = may_store is_next_type gathering memory storage state name op at d; due = refl; suits = counted; then_ = replied })
   where
-    d : IsDueStore storer state name op
-    d = due_store storer memory storage state name op at started g
+    d : IsDueStore gathering state name op
+    d = due_store gathering memory storage state name op at started g
 
     last : Turn
-    last = without (asks.Store op) (stored state (gathered_in storer state name) op)
+    last = without (asks.Store op) (stored state (gathered_in gathering state name) op)
 
     front : List ℕ
     front = codes "stored " ++ (decimal (state.number + 1) ++ (32 ∷ decimal (length op.records)))
@@ -225,4 +226,4 @@ store_awaits is_next_type storer memory registry op count name storage state g a
     replied : (reply : Reply) (new : Storage) → Served storage (asks.Store op) reply new → Replied (phases.Storing count) reply (record memory { registry = registry }) new last
     replied reply new served = subst (λ (r : Reply). Replied (phases.Storing count) r (record memory { registry = registry }) new last) (sym served.reply_is)
         (answers_turn front (stored_text (storage.number + 1) count) (record memory { registry = registry }) new last.state last (stored_no_feed (state.number + 1) (length op.records)) told refl
-        (stands_stored storer memory registry storage new state name op reply at started d g.next_id names saved served))
+        (stands_stored gathering memory registry storage new state name op reply at started d g.next_id names saved served))

@@ -13,8 +13,8 @@ ghost use Rattle.session_lines.specs.Steady.{IsSteadyOutcome};
 ghost use Rattle.session_lines.specs.declared.memory.Memory.{Memory as AnyMemory};
 ghost use Rattle.session_lines.specs.Steps.{export_steps, outcome_steps};
 
-use graph_model::{Ask, Entity, NoMemory};
-use session_lines::{Export, ExportStep, Memory, Outcome, Phase, ROOT_ID};
+use graph_model::{Ask, Entity, NoMemory, ROOT_ID};
+use session_lines::{Export, ExportStep, Memory, Outcome, Phase};
 
 /// Whether the graph has the root, once the script has begun.
 fn has_root(memory: &Memory) -> bool

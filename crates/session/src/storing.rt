@@ -11,63 +11,36 @@ ghost use Rattle.session_lines.specs.Due.{Meets};
 ghost use Rattle.session_lines.specs.Steady.{IsSteadyOutcome, KnowsObjects};
 ghost use Rattle.session_lines.specs.Steps.{IsShort};
 ghost use Rattle.session_lines.specs.Limits.{most_bytes};
-ghost use Rattle.session.specs.StoreAsks.{Gathers, IsGathered, gathered_by};
-ghost use Rattle.session.specs.declared.storing.Storer.{Storer as AnyStorer};
+ghost use Rattle.session.specs.StoreAsks.{Gathers, IsGathered};
+ghost use Rattle.storer.specs.Gathered.{gathered_ids};
+ghost use Rattle.storer.specs.declared.gathering.Gathering.{Gathering as AnyGathering};
 
 use graph_model::{Ask, Ids, NoMemory, Record, StoreOp};
 use session_lines::{Memory, Outcome, Phase, Refusal, Stop, outcome_of};
 use std::alloc::Global;
-use storer::{GatherFault, gather_eager, gather_lazy};
+use storer::{GatherFault, Gathering, gather};
 use type_desc::Text;
 
 /// The most bytes that the entities of one store take.
 const MOST_BYTES: u64 = 1_048_560;
 
-/// Which of the objects that a stored one names are stored with it.
-#[derive(Clone, Copy, Debug)]
-pub enum Storer {
-    /// Those that were never stored.
-    Lazy,
-    /// All that are in memory.
-    Eager,
-}
-
-fn gather_from(memory: &Memory, storer: Storer, start: u64) -> Result<StoreOp, GatherFault>
-    requires { KnowsObjects memory.now }
-    ensures records { IfOk result (λ op. op.records ≡ gathered_records memory.now.registry.instances (gathered_by storer memory.now.registry.instances start)) }
-    ensures next { IfOk result (λ op. op.next_id ≡ memory.now.next_id) }
-    ensures fits { IfOk result (λ op. are_too_big most_bytes op.records ≡ false) }
-    ensures fault { IfErr result (IsRefused most_bytes (gathered_records memory.now.registry.instances (gathered_by storer memory.now.registry.instances start))) }
-{
-    match storer {
-        Storer::Lazy => gather_lazy(
-            memory.alloc,
-            &memory.registry,
-            start,
-            &memory.types,
-            memory.next_id,
-            MOST_BYTES,
-        ),
-        Storer::Eager => gather_eager(
-            memory.alloc,
-            &memory.registry,
-            start,
-            &memory.types,
-            memory.next_id,
-            MOST_BYTES,
-        ),
-    }
-}
-
 /// What is to be stored with the object of the name: `NoName`, then `TooBig`.
-fn gather(memory: &Memory, name: &Text, storer: Storer) -> Result<StoreOp, Stop>
+fn gather_named(memory: &Memory, name: &Text, gathering: Gathering) -> Result<StoreOp, Stop>
     requires { KnowsObjects memory.now }
-    ensures { IsGathered storer memory.now name.now result }
+    ensures { IsGathered gathering memory.now name.now result }
 {
     let Some(start) = memory.registry.id_of(name) else {
         return Err(Stop::Refused(Refusal::NoName));
     };
-    match gather_from(memory, storer, start) {
+    match gather(
+        memory.alloc,
+        &memory.registry,
+        start,
+        &memory.types,
+        memory.next_id,
+        MOST_BYTES,
+        gathering,
+    ) {
         Ok(op) => Ok(op),
         Err(GatherFault::EntityTooBig { id: _, length: _ }) => Err(Stop::Refused(Refusal::TooBig)),
         Err(GatherFault::StoreTooBig { length: _ }) => Err(Stop::Refused(Refusal::TooBig)),
@@ -90,8 +63,8 @@ fn ids_of(alloc: Global, records: &[Record]) -> Result<Ids, NoMemory>
 fn ask_to_store(memory: &mut Memory, op: StoreOp) -> Result<Outcome, NoMemory>
     ensures known { KnowsObjects memory.old → KnowsObjects memory.new }
     ensures steady { IfOk result (IsSteadyOutcome memory.new) }
-    ensures meets { (is_next_type : List (List ℕ) → List ℕ → Bool) (storer : AnyStorer) (name : List ℕ) (storage : Storage) (state : State) → Gathers storer memory.old name op
-        → IsAtState memory.old storage state → state.started ≡ true → IfOk result (λ outcome. Meets is_next_type outcome memory.new storage (store_turn most_bytes state name (gathered_by storer))) }
+    ensures meets { (is_next_type : List (List ℕ) → List ℕ → Bool) (gathering : AnyGathering) (name : List ℕ) (storage : Storage) (state : State) → Gathers gathering memory.old name op
+        → IsAtState memory.old storage state → state.started ≡ true → IfOk result (λ outcome. Meets is_next_type outcome memory.new storage (store_turn most_bytes state name (gathered_ids gathering))) }
     ensures short { IfOk result IsShort }
 {
     let all = ids_of(memory.alloc, op.records.as_slice())?;
@@ -100,15 +73,15 @@ fn ask_to_store(memory: &mut Memory, op: StoreOp) -> Result<Outcome, NoMemory>
     Ok(Outcome::Ask(Ask::Store(op), Phase::Storing(count)))
 }
 
-fn store_by(memory: &mut Memory, name: &Text, storer: Storer) -> Result<Outcome, NoMemory>
+fn store_by(memory: &mut Memory, name: &Text, gathering: Gathering) -> Result<Outcome, NoMemory>
     requires known { KnowsObjects memory.old }
     ensures known { OnOk result (KnowsObjects memory.new) }
     ensures steady { IfOk result (IsSteadyOutcome memory.new) }
     ensures meets { (is_next_type : List (List ℕ) → List ℕ → Bool) (storage : Storage) (state : State) → IsAtState memory.old storage state → state.started ≡ true
-        → IfOk result (λ outcome. Meets is_next_type outcome memory.new storage (store_turn most_bytes state name.now (gathered_by storer))) }
+        → IfOk result (λ outcome. Meets is_next_type outcome memory.new storage (store_turn most_bytes state name.now (gathered_ids gathering))) }
     ensures short { IfOk result IsShort }
 {
-    match gather(memory, name, storer) {
+    match gather_named(memory, name, gathering) {
         Ok(op) => ask_to_store(memory, op),
         Err(stop) => outcome_of(memory.alloc, Err(stop)),
     }
@@ -123,7 +96,7 @@ pub fn store(memory: &mut Memory, name: &Text) -> Result<Outcome, NoMemory>
         → IfOk result (λ outcome. Meets is_next_type outcome memory.new storage (store_turn most_bytes state name.now gathered_lazily)) }
     ensures short { IfOk result IsShort }
 {
-    store_by(memory, name, Storer::Lazy)
+    store_by(memory, name, Gathering::Lazy)
 }
 
 /// `store-all NAME`: stores the object, and from each stored object every one in memory that it names.
@@ -135,5 +108,5 @@ pub fn store_all(memory: &mut Memory, name: &Text) -> Result<Outcome, NoMemory>
         → IfOk result (λ outcome. Meets is_next_type outcome memory.new storage (store_turn most_bytes state name.now gathered_eagerly)) }
     ensures short { IfOk result IsShort }
 {
-    store_by(memory, name, Storer::Eager)
+    store_by(memory, name, Gathering::Eager)
 }

@@ -24,14 +24,11 @@ use crate::outcome::Outcome;
 use crate::places::{named, place_of, refs_in};
 use crate::refusal::{Refusal, Stop};
 use entity_form::Value;
-use graph_model::{Bytes, NoMemory};
+use graph_model::{Bytes, NoMemory, ROOT_ID};
 use object_registry::Registry;
 use script_text::{GivenInteger, Index, Target, bytes_in, integer_in, target_in};
 use std::alloc::Global;
 use type_desc::Text;
-
-/// The id of the root.
-const ROOT_ID: u64 = 1;
 
 /// How a member's value changes.
 #[derive(Debug, Drop)]

@@ -17,15 +17,12 @@ use crate::answers::numbered_line;
 use crate::telling::with_line_feed;
 use entity_form::Object;
 use graph_export::line_of;
-use graph_model::{Bytes, Entity, NoMemory};
+use graph_model::{Bytes, Entity, NoMemory, ROOT_ID};
 use lazy_refs::read;
 use std::alloc::Global;
 use std::collections::BTreeSet;
 use std::marker::Model;
 use type_dictionary::Dictionary;
-
-/// The id of the root.
-pub const ROOT_ID: u64 = 1;
 
 /// What an export needs or gives next.
 #[derive(Debug, Drop)]

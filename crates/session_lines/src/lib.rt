@@ -18,7 +18,7 @@ mod telling;
 pub use answers::{line, numbered_line, outcome_of, refusal_line};
 pub use changing::{add_to, cut_from, set_member, set_root};
 pub use declaring::declare_type;
-pub use exporting::{Export, ExportStep, ROOT_ID};
+pub use exporting::{Export, ExportStep};
 pub use laws::exports_tell_what_is_held;
 pub use memory::Memory;
 pub use naming::{bind_found, drop_name, home, new, pick};

@@ -21,13 +21,10 @@ use crate::outcome::Outcome;
 use crate::places::{is_root_name, is_root_type, may_bind, place_of, ref_in, refs_in};
 use crate::refusal::{Refusal, Stop};
 use entity_form::{Object, default_object};
-use graph_model::{Bytes, NoMemory};
+use graph_model::{Bytes, ID_LIMIT, NoMemory};
 use object_registry::{BindFault, Registry};
 use script_text::Index;
 use type_desc::Text;
-
-/// Every id is below this.
-const ID_LIMIT: u64 = 1 << 48;
 
 /// Binds a name that is free.
 fn bind(registry: &mut Registry, name: &Text, id: u64) -> Result<(), NoMemory>

@@ -3,6 +3,7 @@ use Rattle.std.specs.Prelude.{ℕ, ℤ, ◌+◌, ◌-◌, ◌*◌, ◌^◌, ◌=
 use Rattle.std.specs.List.{filter, list_any, flat_map}
 use Rattle.std.specs.Fmt.{decimal}
 use Rattle.std.specs.Str.{bytes_eq}
+use Rattle.graph_model.specs.Limits.{entity_limit, id_limit}
 use Rattle.graph_model.specs.Ids.{has}
 use Rattle.graph_model.specs.Graph.{Graph, lists, entity_size, after}
 use Rattle.graph_model.specs.declared.entity.Record.{Record}
@@ -326,7 +327,7 @@ new_turn state name type_name =
     (reserved (is_root_name name || is_root_type type_name)
     ∷ name_taken (is_bound state name)
     ∷ no_type (is_none (latest_of state.types type_name))
-    ∷ is_full (nat_le (2 ^ 48) id)
+    ∷ is_full (nat_le id_limit id)
     ∷ [])
     (answered (record (bound state name id) { next_id = id + 1; instances = put_instance id instance state.instances }) (codes "new " ++ decimal id))
 
@@ -383,7 +384,7 @@ saved_instances instances ids =
 -- an entity above its most bytes, or all together above theirs
 abbrev pub are_too_big : ℕ → List Record → Bool
 are_too_big most records =
-    list_any (λ (r : Record). nat_lt 1048576 (entity_size r.entity)) records || nat_lt most (sum_by (λ (r : Record). entity_size r.entity) records)
+    list_any (λ (r : Record). nat_lt entity_limit (entity_size r.entity)) records || nat_lt most (sum_by (λ (r : Record). entity_size r.entity) records)
 
 abbrev pub stored : State → List ℕ → StoreOp → Turn
 stored state ids op =

@@ -1,7 +1,8 @@
 -- What holds of every state that a script comes to: its types, its graph and the objects in memory agree.
-use Rattle.std.specs.Prelude.{◌≡◌, ◌⊎◌, ◌≤◌, ◌^◌, ℕ, Bool, true, false, nat_eq, is_none, not, ◌&&◌, ◌||◌, Some, List, [], ◌∷◌, length, map, slice_get, IsUtf8, FitsSigned, codes}
+use Rattle.std.specs.Prelude.{◌≡◌, ◌⊎◌, ◌≤◌, ℕ, Bool, true, false, nat_eq, is_none, not, ◌&&◌, ◌||◌, Some, List, [], ◌∷◌, length, map, slice_get, IsUtf8, FitsSigned, codes}
 use Rattle.std.specs.List.{flat_map, list_all}
 use Rattle.std.specs.Int.{w64}
+use Rattle.graph_model.specs.Limits.{entity_limit, first_id, id_limit}
 use Rattle.graph_model.specs.declared.entity.Entity.{Entity}
 use Rattle.graph_model.specs.Ids.{has, rises}
 use Rattle.graph_model.specs.Graph.{Graph, entity_of, entity_size, lists, has_edge, ids}
@@ -43,7 +44,7 @@ pub record IsRightGraph (types : List TypeDesc) (next_id : ℕ) (g : Graph) : Ty
   pub order : rises (ids g) ≡ true
   pub good_ids : (x : ℕ) → lists g x ≡ true → is_good_id next_id x ≡ true
   pub forms : (x : ℕ) (entity : Entity) → entity_of g x ≡ Some entity → IsWellFormed types x entity
-  pub sizes : (x : ℕ) (entity : Entity) → entity_of g x ≡ Some entity → entity_size entity ≤ 1048576
+  pub sizes : (x : ℕ) (entity : Entity) → entity_of g x ≡ Some entity → entity_size entity ≤ entity_limit
   pub whole : (x y : ℕ) → lists g x ≡ true → has_edge g x y ≡ true → lists g y ≡ true
 
 -- ---- names
@@ -96,8 +97,8 @@ pub record IsRightInstance (types : List TypeDesc) (next_id : ℕ) (g : Graph) (
 pub record IsSound (state : State) : Type 0 where
   pub types : AreTypes state.types
   pub pairs : list_all spares_root state.pairs ≡ true
-  pub low : 1024 ≤ state.next_id
-  pub high : state.next_id ≤ 2 ^ 48
+  pub low : first_id ≤ state.next_id
+  pub high : state.next_id ≤ id_limit
   pub graph : IsRightGraph state.types state.next_id state.graph
   pub order : rises (map (λ (h : Held). h.id) state.instances) ≡ true
   pub each : (x : ℕ) (i : Instance) → instance_at state.instances x ≡ Some i → IsRightInstance state.types state.next_id state.graph state.instances x i

@@ -8,7 +8,7 @@ use graph_model::{Ids, NoMemory, StoreOp};
 use object_registry::Registry;
 use std::alloc::Global;
 use std::test::Fail;
-use storer::{GatherFault, gather_eager, gather_lazy};
+use storer::{GatherFault, Gathering, gather};
 use type_dictionary::Dictionary;
 
 /// Puts an object of the built-in type in, which refers to the target.
@@ -42,12 +42,12 @@ fn the_lazy_walk_leaves_out_what_is_stored(rt: HostRuntime) -> Result<(), Fail> 
     let alloc = rt.alloc();
     let registry = chain(alloc)?;
     let types = Dictionary::new(alloc);
-    let op = gather_lazy(alloc, &registry, 1, &types, 1026, 80)?;
+    let op = gather(alloc, &registry, 1, &types, 1026, 80, Gathering::Lazy)?;
     assert!(rt; ids_are(&op, &[1, 1024]) && op.next_id == 1026);
-    let op = gather_eager(alloc, &registry, 1, &types, 1026, 120)?;
+    let op = gather(alloc, &registry, 1, &types, 1026, 120, Gathering::Eager)?;
     assert!(rt; ids_are(&op, &[1, 1024, 1025]));
     // Three entities of 32 bytes and one reference each.
-    let fault = gather_eager(alloc, &registry, 1, &types, 1026, 119).err();
+    let fault = gather(alloc, &registry, 1, &types, 1026, 119, Gathering::Eager).err();
     assert_eq!(rt; fault, Some(GatherFault::StoreTooBig { length: 120 }));
     Ok(())
 }

@@ -1,5 +1,6 @@
 -- When what is gathered is too much to be stored.
 use Rattle.std.specs.Prelude.{◌≡◌, ℕ, ◌-◌, ◌<◌, ◌^◌, min, nat_lt, Option, Some, None, IsSomeAnd, if◌then◌else◌, List, [], ◌∷◌, sum_by}
+use Rattle.graph_model.specs.Limits.{entity_limit}
 use Rattle.graph_model.specs.Graph.{entity_size}
 use Rattle.graph_model.specs.declared.entity.Record.{Record}
 use Rattle.storer.specs.declared.fault.GatherFault.{GatherFault}
@@ -18,7 +19,7 @@ as_said n = min n (2 ^ 64 - 1)
 -- the first record whose entity is above the most bytes of an entity. Records stand by rising id, so it has the least id of all such.
 abbrev pub first_big : List Record → Option Record
 first_big [] = None
-first_big (r ∷ rs) = if nat_lt 1048576 (size_of r) then Some r else first_big rs
+first_big (r ∷ rs) = if nat_lt entity_limit (size_of r) then Some r else first_big rs
 
 -- the record with this id is the first that is too big, and has so many bytes
 abbrev pub IsFirstBig : List Record → ℕ → ℕ → Type 0

@@ -1,6 +1,7 @@
 -- When what is gathered is a store that may be made.
-use Rattle.std.specs.Prelude.{◌≡◌, ℕ, ◌≤◌, ◌^◌, Bool, true, false, nat_eq, not, ◌&&◌, ◌||◌, Some, List}
+use Rattle.std.specs.Prelude.{◌≡◌, ℕ, ◌≤◌, Bool, true, false, nat_eq, not, ◌&&◌, ◌||◌, Some, List}
 use Rattle.std.specs.List.{flat_map}
+use Rattle.graph_model.specs.Limits.{id_limit}
 use Rattle.graph_model.specs.Ids.{has}
 use Rattle.graph_model.specs.Graph.{Graph, has_edge, lists}
 use Rattle.graph_model.specs.Stores.{is_good_id, is_valid_store}
@@ -21,7 +22,7 @@ pub record MayBeStored (g : Graph) (next_id : ℕ) (instances : Instances) (x : 
 -- the next id does not fall and is at most 2^48, the saved instances are the held ids, and each that is gathered may be stored
 pub record MayGather (g : Graph) (held : List ℕ) (next next_id : ℕ) (instances : Instances) (gathered : List ℕ) : Type 0 where
   pub after : next ≤ next_id
-  pub within : next_id ≤ 2 ^ 48
+  pub within : next_id ≤ id_limit
   pub saved_are_held : (x : ℕ) → has x held ≡ has x (held_ids instances)
   pub each : (x : ℕ) (i : Instance) → has x gathered ≡ true → instance_at instances x ≡ Some i → MayBeStored g next_id instances x i
 

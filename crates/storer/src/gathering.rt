@@ -1,8 +1,7 @@
-//! The two walks that gather a store.
+//! The walk that gathers a store.
 
 ghost use Rattle.std.specs.Prelude.{◌≡◌, ◌≤◌, false, IfOk, IfErr};
 ghost use Rattle.session_model.specs.Answer.{gathered_records, are_too_big};
-ghost use Rattle.session_model.specs.Instances.{gathered_eagerly, gathered_lazily};
 ghost use Rattle.storer.specs.Gathered.{AreKnown, gathered_ids};
 ghost use Rattle.storer.specs.Faults.{IsRefused};
 ghost use Rattle.storer.specs.Valid.{IsValidStore};
@@ -24,9 +23,10 @@ pub enum Gathering {
     Eager,
 }
 
-/// The records of what a walk gathers from the start, with the next id, where they are not too big. At most so many
-/// bytes go into one store.
-fn gather(
+/// Gathers the start, and from each gathered object every one that it names by a reference of any kind and that the
+/// gathering takes: their records by rising id, with the next id. At most so many bytes go into one store, the headers
+/// of the entities included. `EntityTooBig` comes before `StoreTooBig`.
+pub fn gather(
     alloc: Global,
     registry: &Registry,
     start: u64,
@@ -53,60 +53,4 @@ fn gather(
         records: Records::new(records),
         next_id,
     })
-}
-
-/// Gathers the start, and from each gathered object every one that it names, by a reference of any kind, and that was
-/// never stored. `EntityTooBig` comes before `StoreTooBig`.
-pub fn gather_lazy(
-    alloc: Global,
-    registry: &Registry,
-    start: u64,
-    types: &Dictionary,
-    next_id: u64,
-    most: u64,
-) -> Result<StoreOp, GatherFault>
-    requires { AreKnown types.now registry.now.instances }
-    ensures records { IfOk result (λ op. op.records ≡ gathered_records registry.now.instances (gathered_lazily registry.now.instances start)) }
-    ensures next { IfOk result (λ op. op.next_id ≡ next_id) }
-    ensures fits { IfOk result (λ op. are_too_big most op.records ≡ false) }
-    ensures fault { IfErr result (IsRefused most (gathered_records registry.now.instances (gathered_lazily registry.now.instances start))) }
-    ensures valid { IfOk result (λ op. most ≤ 16777216 → IsValidStore registry.now.instances (gathered_lazily registry.now.instances start) op) }
-{
-    gather(
-        alloc,
-        registry,
-        start,
-        types,
-        next_id,
-        most,
-        Gathering::Lazy,
-    )
-}
-
-/// Gathers the start, and from each gathered object every one in memory that it names, by a reference of any kind.
-/// `EntityTooBig` comes before `StoreTooBig`.
-pub fn gather_eager(
-    alloc: Global,
-    registry: &Registry,
-    start: u64,
-    types: &Dictionary,
-    next_id: u64,
-    most: u64,
-) -> Result<StoreOp, GatherFault>
-    requires { AreKnown types.now registry.now.instances }
-    ensures records { IfOk result (λ op. op.records ≡ gathered_records registry.now.instances (gathered_eagerly registry.now.instances start)) }
-    ensures next { IfOk result (λ op. op.next_id ≡ next_id) }
-    ensures fits { IfOk result (λ op. are_too_big most op.records ≡ false) }
-    ensures fault { IfErr result (IsRefused most (gathered_records registry.now.instances (gathered_eagerly registry.now.instances start))) }
-    ensures valid { IfOk result (λ op. most ≤ 16777216 → IsValidStore registry.now.instances (gathered_eagerly registry.now.instances start) op) }
-{
-    gather(
-        alloc,
-        registry,
-        start,
-        types,
-        next_id,
-        most,
-        Gathering::Eager,
-    )
 }

@@ -7,4 +7,4 @@ mod gathering;
 mod recording;
 
 pub use fault::GatherFault;
-pub use gathering::{gather_eager, gather_lazy};
+pub use gathering::{Gathering, gather};

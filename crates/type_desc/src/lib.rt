@@ -4,6 +4,7 @@
 mod desc;
 mod fault;
 pub mod fields;
+mod limits;
 mod lists;
 mod reading;
 mod text;
@@ -11,6 +12,7 @@ mod writing;
 
 pub use desc::{Kind, Member, NameKind, TypeDesc};
 pub use fault::{DescFault, NoMemory, ReadFault};
+pub use limits::{FIRST_RECORD_ID, LAST_RECORD_ID, MAX_MEMBERS};
 pub use lists::{Bytes8, Members};
 pub use reading::read_desc;
 pub use text::Text;

@@ -9,18 +9,10 @@ ghost use Rattle.type_desc.specs.Prefixes.{Spells};
 use crate::desc::{Member, NameKind, TypeDesc};
 use crate::fault::{DescFault, ReadFault};
 use crate::fields::{byte, end, kind, name, stuck};
+use crate::limits::{FIRST_RECORD_ID, LAST_RECORD_ID, MAX_MEMBERS};
 use crate::lists::Members;
 use crate::text::Text;
 use std::alloc::Global;
-
-/// The most members of a type.
-const MAX_MEMBERS: usize = 1024;
-
-/// The least id of a record.
-const FIRST_ID: u64 = 16;
-
-/// The greatest id of a record.
-const LAST_ID: u64 = 65_551;
 
 /// Takes further digits of an id, as long as it does not become too large.
 #[tactic(auto, unfolding(crate::specs::Reading::more_digits_at))]
@@ -35,13 +27,13 @@ fn more_digits(first: u64, bytes: &[u8]) -> Result<(u64, &[u8]), ReadFault>
             break;
         }
         let longer = id * 10 + u64::from(*digit - b'0');
-        if longer > LAST_ID {
+        if longer > LAST_RECORD_ID {
             break;
         }
         id = longer;
         rest = after;
     }
-    if id < FIRST_ID {
+    if id < FIRST_RECORD_ID {
         return Err(stuck(rest));
     }
     Ok((id, rest))

@@ -14,13 +14,10 @@ use graph_model::{Bytes, NoMemory};
 use std::alloc::{AllocError, Global};
 use std::collections::BTreeMap;
 use std::marker::Model;
-use type_desc::{DescFault, Text, TypeDesc, read_desc, write_desc};
+use type_desc::{DescFault, FIRST_RECORD_ID, Text, TypeDesc, read_desc, write_desc};
 
 /// The id of the built-in type.
-const ROOT_ID: u64 = 1;
-
-/// The id of the first record.
-const FIRST_ID: u64 = 16;
+pub const ROOT_TYPE_ID: u64 = 1;
 
 /// The most records of a dictionary.
 const MAX_RECORDS: usize = 65_536;
@@ -92,13 +89,13 @@ impl Dictionary {
         ensures value { option_copied result ≡ desc_of self.now id }
         ensures sound { IfSome result (λ desc. IsSound desc.now) }
     {
-        if id == ROOT_ID {
+        if id == ROOT_TYPE_ID {
             return Some(&self.root);
         }
-        if id < FIRST_ID {
+        if id < FIRST_RECORD_ID {
             return None;
         }
-        self.get(id - FIRST_ID)
+        self.get(id - FIRST_RECORD_ID)
     }
 
     /// The id of the latest record of this name.
@@ -114,7 +111,7 @@ impl Dictionary {
         ensures named { IfSome result (λ id. IsSomeAnd (desc_of self.now id) (λ desc. desc.name ≡ name.now)) }
     {
         if name.is_same(&self.root.name) {
-            return Some(ROOT_ID);
+            return Some(ROOT_TYPE_ID);
         }
         self.latest_record(name)
     }
@@ -133,7 +130,7 @@ impl Dictionary {
         ensures next { result ≡ 16 + length self.now }
         ensures small { result ≤ 65552 }
     {
-        FIRST_ID + self.count()
+        FIRST_RECORD_ID + self.count()
     }
 
     /// The next record, for a type that is new.
@@ -216,7 +213,7 @@ impl Dictionary {
         ensures kept { OnErr result (self.new ≡ self.old) }
     {
         self.records.reserve(1)?;
-        let id = FIRST_ID + self.records.len() as u64;
+        let id = FIRST_RECORD_ID + self.records.len() as u64;
         let name = String::from_str(self.alloc, desc.name.as_str())?;
         self.ids.insert(name, id)?;
         self.records.push(desc)?;

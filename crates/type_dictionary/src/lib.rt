@@ -7,6 +7,6 @@ mod fault;
 mod repeats;
 
 pub use declaration::Declared;
-pub use dictionary::Dictionary;
+pub use dictionary::{Dictionary, ROOT_TYPE_ID};
 pub use fault::{DeclareFault, RecordFault};
 pub use repeats::have_no_repeat;
