@@ -17,6 +17,7 @@ use Rattle.channel_files.specs.declared.place.Place.{Place}
 use Rattle.channel_files.specs.Heads.{chunk_of}
 use Rattle.channel_files.specs.Table.{Occurrence, occurrence, occurrences_from, last_of, occurrences_of}
 use Rattle.channel_files.proofs.NumbersInFront.{number_in_front, number_there}
+use Rattle.channel_files.proofs.WholeEntities.{first_entity}
 use Rattle.channel.specs.Entities.{chunk_for}
 use Rattle.channel.specs.Parts.{IsRightRecord}
 use Rattle.channel.proofs.Spelled.{spelled, header_spelled}
@@ -53,29 +54,6 @@ pub chunk_is_whole : (rs : List Record) → AllByRecursion IsRightRecord rs → 
 chunk_is_whole rs all = record { entities = map spelled rs; whole = all_whole rs all; split = one_by_one rs }
 
 -- ---- the entities of the chunk
-
-skipped : (front rest : List ℕ) → entities_from (length front) (front ++ rest) ≡ entities_of rest
-skipped [] rest = refl
-skipped (b ∷ front) rest =
-    let one_more : length (b ∷ front) ≡ suc (length front) = omega arith in
-    ap (λ (k : ℕ). entities_from k (b ∷ front ++ rest)) one_more ∙ skipped front rest
-
--- its length is read at its front, whatever stands behind it
-own_length : (entity rest : List ℕ) → IsEntity entity → number_at 8 (entity ++ rest) 0 ≡ Some (length entity)
-own_length entity rest is =
-    sym (number_in_front (length entity) 0 (entity ++ rest) (omega (arith, is.least)) (omega (arith, length-append entity rest)))
-    ∙ ap (λ (front : List ℕ). number_at 8 front 0) (take_at entity rest (length entity) refl)
-    ∙ is.length_is
-
-first_entity : (entity rest : List ℕ) → IsEntity entity → entities_of (entity ++ rest) ≡ entity ∷ entities_of rest
-first_entity [] rest is = absurd (omega (arith, is.least))
-first_entity (b ∷ entity) rest is =
-    let size : unwrap_or (number_at 8 (b ∷ (entity ++ rest)) 0) 0 ≡ length (b ∷ entity) = ap (λ (o : Option ℕ). unwrap_or o 0) (own_length (b ∷ entity) rest is) in
-    let less : length (b ∷ entity) - 1 ≡ length entity = omega arith in
-    ap (λ (k : ℕ). take k (b ∷ (entity ++ rest)) ∷ entities_from (k - 1) (entity ++ rest)) size
-    ∙ ap (λ (front : List ℕ). front ∷ entities_from (length (b ∷ entity) - 1) (entity ++ rest)) (take_at (b ∷ entity) rest (length (b ∷ entity)) refl)
-    ∙ ap (λ (k : ℕ). (b ∷ entity) ∷ entities_from k (entity ++ rest)) less
-    ∙ ap (λ (more : List (List ℕ)). (b ∷ entity) ∷ more) (skipped entity rest)
 
 pub chunk_entities : (rs : List Record) → AllByRecursion IsRightRecord rs → entities_of (chunk_for rs) ≡ map spelled rs
 chunk_entities [] all = refl

@@ -6,7 +6,7 @@ use Rattle.field_bytes.specs.Fields.{number_at}
 use Rattle.data_file.specs.Chunks.{IsEntity, IsChunk, entities_from, entities_of}
 use Rattle.channel_files.specs.Chunks.{Chunk}
 use Rattle.channel_files.specs.Table.{Occurrence, occurrences_from, occurrences_of}
-use Rattle.channel_files.proofs.NumbersInFront.{number_in_front}
+use Rattle.channel_files.proofs.WholeEntities.{entities_again, own_length}
 
 -- ---- any bytes
 
@@ -33,37 +33,6 @@ ends_from file at (suc skip) (b ∷ bytes) = ends_later file (at + (length bytes
 -- a chunk's entities end within it
 pub entities_end : (c : Chunk) → AllByRecursion (EndsBy c.file (c.at + length c.bytes)) (occurrences_of c)
 entities_end c = ends_later c.file (c.at + (length c.bytes - 0)) (c.at + length c.bytes) (occurrences_of c) (omega arith) (ends_from c.file c.at 0 c.bytes)
-
--- ---- whole entities
-
-skipped : (front rest : List ℕ) → entities_from (length front) (front ++ rest) ≡ entities_of rest
-skipped [] rest = refl
-skipped (b ∷ front) rest =
-    let one_more : length (b ∷ front) ≡ suc (length front) = omega arith in
-    ap (λ (k : ℕ). entities_from k (b ∷ front ++ rest)) one_more ∙ skipped front rest
-
--- its length is read at its front, whatever stands behind it
-own_length : (entity rest : List ℕ) → IsEntity entity → number_at 8 (entity ++ rest) 0 ≡ Some (length entity)
-own_length entity rest is =
-    sym (number_in_front (length entity) 0 (entity ++ rest) (omega (arith, is.least)) (omega (arith, length-append entity rest)))
-    ∙ ap (λ (front : List ℕ). number_at 8 front 0) (take_at entity rest (length entity) refl)
-    ∙ is.length_is
-
-first_entity : (entity rest : List ℕ) → IsEntity entity → entities_of (entity ++ rest) ≡ entity ∷ entities_of rest
-first_entity [] rest is = absurd (omega (arith, is.least))
-first_entity (b ∷ entity) rest is =
-    let size : unwrap_or (number_at 8 (b ∷ (entity ++ rest)) 0) 0 ≡ length (b ∷ entity) = ap (λ (o : Option ℕ). unwrap_or o 0) (own_length (b ∷ entity) rest is) in
-    let less : length (b ∷ entity) - 1 ≡ length entity = omega arith in
-    ap (λ (k : ℕ). take k (b ∷ (entity ++ rest)) ∷ entities_from (k - 1) (entity ++ rest)) size
-    ∙ ap (λ (front : List ℕ). front ∷ entities_from (length (b ∷ entity) - 1) (entity ++ rest)) (take_at (b ∷ entity) rest (length (b ∷ entity)) refl)
-    ∙ ap (λ (k : ℕ). (b ∷ entity) ∷ entities_from k (entity ++ rest)) less
-    ∙ ap (λ (more : List (List ℕ)). (b ∷ entity) ∷ more) (skipped entity rest)
-
--- entities one after another are read as these
-entities_again : (entities : List (List ℕ)) → AllByRecursion IsEntity entities → entities_of (flat_map (λ e. e) entities) ≡ entities
-entities_again [] whole = refl
-entities_again (e ∷ entities) whole =
-    first_entity e (flat_map (λ e. e) entities) whole.0 ∙ ap (λ (more : List (List ℕ)). e ∷ more) (entities_again entities whole.1)
 
 -- the entity stands so far behind this place, in bytes that begin there
 pub record StandsIn (bytes : List ℕ) (file at : ℕ) (o : Occurrence) : Type 0 where

@@ -9,6 +9,7 @@ pub mod Refusals
 pub mod OtherFiles
 pub mod AtOk
 pub mod NumbersInFront
+pub mod WholeEntities
 pub mod EntitiesStand
 pub mod TableEntries
 pub mod FoundEntities

@@ -10,6 +10,7 @@ pub use Rattle.core_steps.specs.declared.state.OpenStore.{OpenStore}
 use Rattle.core_steps.specs.declared.state.HandState.{HandState}
 pub use Rattle.core_steps.specs.declared.state.Book.{Book}
 use Rattle.core_steps.specs.declared.state.CoreState.{CoreState}
+use Rattle.graph_model.specs.Stores.{next_after}
 use Rattle.graph_model.specs.Graph.{Graph, after}
 
 -- a hand, as actors hold them
@@ -25,10 +26,6 @@ Core = CoreState
 -- the graph: that of the start after the ended stores
 abbrev pub graph : Book → Graph
 graph b = after b.start b.ended
-
-abbrev pub next_after : ℕ → List StoreOp → ℕ
-next_after d [] = d
-next_after d (op ∷ ops) = next_after op.next_id ops
 
 -- the next id before a store: that of the last ended store, or the start's
 abbrev pub next_before : Book → ℕ

@@ -51,3 +51,8 @@ any_edge g xs y = list_any (λ (x : ℕ). has_edge g x y) xs
 -- x is held already, or is an edge of the graph's entity of the root or of a held id, or is the root
 abbrev pub may_hold : Graph → List ℕ → ℕ → Bool
 may_hold g held x = has x held || (any_edge g (1 ∷ held) x || nat_eq x 1)
+
+-- the next id behind these stores, from that before them
+abbrev pub next_after : ℕ → List StoreOp → ℕ
+next_after next [] = next
+next_after next (op ∷ ops) = next_after op.next_id ops

@@ -9,7 +9,8 @@ use Rattle.plain_storage.specs.Finishing.{AreSameLogs}
 use Rattle.plain_storage.specs.Held.{IsPlainStored, IsSoundGraph, PlainHeld}
 use Rattle.plain_storage.specs.Logs.{IsLogFile}
 use Rattle.plain_storage.specs.Reading.{AreStoresHeld}
-use Rattle.plain_storage.specs.Stores.{plain_header, payloads_of_stores, last_next_id}
+use Rattle.plain_storage.specs.Stores.{plain_header, payloads_of_stores}
+use Rattle.graph_model.specs.Stores.{next_after}
 use Rattle.plain_storage.specs.Types.{types_header, AreTypesHeld, AreRecords}
 use Rattle.plain_storage.proofs.Opening.{file_payloads, records_of_file, holds_too}
 use Rattle.plain_storage.proofs.StoreLists.{stores_once, length-payloads_of_stores}
@@ -49,7 +50,7 @@ plain_once image0 image1 held other stored also =
     let types : held.types ≡ other.types = types_held_once image1 held.types other.types stored.types also.types in
     let graph : held.graph ≡ other.graph = stored.graph ∙ ap (λ (ops : List StoreOp). after [] ops) same ∙ sym also.graph in
     let number : held.number ≡ other.number = stored.number ∙ ap (λ (ops : List StoreOp). length ops) same ∙ sym also.number in
-    let next_id : held.next_id ≡ other.next_id = stored.next_id ∙ ap (λ (ops : List StoreOp). last_next_id 1024 ops) same ∙ sym also.next_id in
+    let next_id : held.next_id ≡ other.next_id = stored.next_id ∙ ap (λ (ops : List StoreOp). next_after 1024 ops) same ∙ sym also.next_id in
     λ i. record { types = types i; graph = graph i; number = number i; next_id = next_id i }
 
 -- types, stores and a sound graph are what the images hold

@@ -12,7 +12,8 @@ use Rattle.plain_storage.specs.Held.{IsPlainStored, PlainHeld}
 use Rattle.plain_storage.specs.Images.{AreClean, EachPair}
 use Rattle.plain_storage.specs.Keeping.{HoldsEither, IsWithStore, IsWithType, Keeps, Plain, held_in}
 use Rattle.plain_storage.specs.Logs.{IsOpen}
-use Rattle.plain_storage.specs.Stores.{HoldsStores, last_next_id, plain_header}
+use Rattle.plain_storage.specs.Stores.{HoldsStores, plain_header}
+use Rattle.graph_model.specs.Stores.{next_after}
 use Rattle.plain_storage.specs.Types.{AreTypesHeld, types_header}
 use Rattle.plain_storage.proofs.StoresKept.{last_next_id-push}
 use Rattle.plain_storage.proofs.TypesKept.{sound_with_type}
@@ -68,7 +69,7 @@ module _ (r r' : ℕ → List ℕ) (lv lv' : ℕ → List ℕ → Bool) where
 
   module _ (others : OthersStay 0 r r' lv lv') (op : StoreOp) where
     pub store_keeps : (p q : Plain) (types next_types : List TypeDesc) → Keeps p types r → IsOpen 0 plain_header q.stores_log (r' 0) → q.types_log ≡ p.types_log → p.next_id ≤ op.next_id
-        → ((stores : List StoreOp) → HoldsStores (r 0) stores → last_next_id 1024 stores ≤ op.next_id → HoldsStores (r' 0) (stores ++ op ∷ []))
+        → ((stores : List StoreOp) → HoldsStores (r 0) stores → next_after 1024 stores ≤ op.next_id → HoldsStores (r' 0) (stores ++ op ∷ []))
         → IsWithStore op (held_in p types) (held_in q next_types) → Keeps q next_types r'
     store_keeps p q types next_types keeps open_log same no_less kept with =
         let reads_types = others.reads 1 one-zero in
@@ -84,7 +85,7 @@ module _ (r r' : ℕ → List ℕ) (lv lv' : ℕ → List ℕ → Bool) where
         }
 
     pub store_stops : (held next : PlainHeld) → AreClean r lv → IsPlainStored (r 0) (r 1) held → held.next_id ≤ op.next_id
-        → ((stores : List StoreOp) → HoldsStores (r 0) stores → last_next_id 1024 stores ≤ op.next_id → Each (lv' 0) (λ image. HoldsStores image stores ⊎ HoldsStores image (stores ++ op ∷ [])))
+        → ((stores : List StoreOp) → HoldsStores (r 0) stores → next_after 1024 stores ≤ op.next_id → Each (lv' 0) (λ image. HoldsStores image stores ⊎ HoldsStores image (stores ++ op ∷ [])))
         → IsWithStore op held next → EachPair lv' (HoldsEither held next)
     store_stops held next clean stored no_less stop with image0 image1 left0 left1 =
         let is : image1 ≡ r 1 = clean.types image1 (subst (λ (l : List ℕ → Bool). IsTrue (l image1)) (others.leaves 1 one-zero) left1) in

@@ -5,7 +5,8 @@ use Rattle.field_bytes.specs.Fields.{number_at}
 use Rattle.graph_model.specs.Graph.{Graph, after, put_all}
 use Rattle.graph_model.specs.declared.entity.StoreOp.{StoreOp}
 use Rattle.plain_storage.specs.Reading.{AreStores, IsStorePayload}
-use Rattle.plain_storage.specs.Stores.{record_bytes, payload_of, payloads_of_stores, MayFollow, AllMayFollow, last_next_id}
+use Rattle.plain_storage.specs.Stores.{record_bytes, payload_of, payloads_of_stores, MayFollow, AllMayFollow}
+use Rattle.graph_model.specs.Stores.{next_after}
 use Rattle.plain_storage.proofs.ObjectLists.{records_same}
 use Rattle.plain_storage.proofs.StoreNumbers.{second_number, some_number, store_behind}
 
@@ -16,7 +17,7 @@ stores_more number before next last payload rest old mid new first others = reco
   stores = first.store ∷ others.stores;
   follow = (first.follows, subst (λ n. AllMayFollow n others.stores) first.next_is others.follow);
   spelled = ap (λ (p : List ℕ). p ∷ rest) first.spelled ∙ ap (λ (ps : List (List ℕ)). payload_of number first.store ∷ ps) others.spelled;
-  next_is = others.next_is ∙ ap (λ n. last_next_id n others.stores) first.next_is;
+  next_is = others.next_is ∙ ap (λ n. next_after n others.stores) first.next_is;
   made = others.made ∙ ap (λ (g : Graph). after g others.stores) first.made;
 }
 
@@ -43,7 +44,7 @@ no_payload : (payload : List ℕ) (rest : List (List ℕ)) → ◌≡◌ {A = Li
 no_payload payload rest is = cc
 
 first_of_stores : (number before last : ℕ) (payload : List ℕ) (rest : List (List ℕ)) (old new : Graph) (stores : List StoreOp) → AllMayFollow before stores
-    → payload ∷ rest ≡ payloads_of_stores number stores → last ≡ last_next_id before stores → new ≡ after old stores → IsFirstStore number before payload rest last old new
+    → payload ∷ rest ≡ payloads_of_stores number stores → last ≡ next_after before stores → new ≡ after old stores → IsFirstStore number before payload rest last old new
 first_of_stores number before last payload rest old new [] follow spelled next_is made = absurd (no_payload payload rest spelled)
 first_of_stores number before last payload rest old new (op ∷ stores) follow spelled next_is made = record {
   store = op;

@@ -12,7 +12,8 @@ use Rattle.graph_model.specs.Stores.{is_good_id}
 use Rattle.graph_model.specs.declared.entity.Record.{Record}
 use Rattle.graph_model.specs.declared.entity.StoreOp.{StoreOp}
 use Rattle.plain_storage.specs.Serving.{HasSpelling, IsGoodStore, IsNextStore, asked_fault}
-use Rattle.plain_storage.specs.Stores.{AllMayFollow, HoldsStores, IsObject, MayFollow, last_next_id, payload_of, payloads_of_stores, plain_header}
+use Rattle.plain_storage.specs.Stores.{AllMayFollow, HoldsStores, IsObject, MayFollow, payload_of, payloads_of_stores, plain_header}
+use Rattle.graph_model.specs.Stores.{next_after}
 use Rattle.plain_storage.proofs.Opening.{file_payloads}
 
 abbrev one_payload : ℕ → StoreOp → List (List ℕ)
@@ -33,11 +34,11 @@ pub length-payloads_of_stores : (number : ℕ) (stores : List StoreOp) → lengt
 length-payloads_of_stores number [] = refl
 length-payloads_of_stores number (op ∷ stores) = omega (arith, length-payloads_of_stores (number + 1) stores)
 
-pub follow-push : (before : ℕ) (stores : List StoreOp) (op : StoreOp) → AllMayFollow before stores → MayFollow (last_next_id before stores) op → AllMayFollow before (stores ++ op ∷ [])
+pub follow-push : (before : ℕ) (stores : List StoreOp) (op : StoreOp) → AllMayFollow before stores → MayFollow (next_after before stores) op → AllMayFollow before (stores ++ op ∷ [])
 follow-push before [] op all last = (last, tt)
 follow-push before (first ∷ stores) op all last = (all.0, follow-push first.next_id stores op all.1 last)
 
-pub last_next_id-push : (before : ℕ) (stores : List StoreOp) (op : StoreOp) → last_next_id before (stores ++ op ∷ []) ≡ op.next_id
+pub last_next_id-push : (before : ℕ) (stores : List StoreOp) (op : StoreOp) → next_after before (stores ++ op ∷ []) ≡ op.next_id
 last_next_id-push before [] op = refl
 last_next_id-push before (first ∷ stores) op = last_next_id-push first.next_id stores op
 
@@ -104,7 +105,7 @@ may_follow before op good spelling no_less = record {
 
 -- the payload with the number that is due is the next store's
 pub next_store : (log : LogState) (file payload : List ℕ) (stores : List StoreOp) (op : StoreOp) (number : ℕ) → IsOf log file → HoldsStores file stores
-    → (log.count < log.length → number ≡ log.count + 1) → IsGoodStore op → AllByRecursion HasSpelling op.records → last_next_id 1024 stores ≤ op.next_id → payload ≡ payload_of number op → IsNextStore stores payload op
+    → (log.count < log.length → number ≡ log.count + 1) → IsGoodStore op → AllByRecursion HasSpelling op.records → next_after 1024 stores ≤ op.next_id → payload ≡ payload_of number op → IsNextStore stores payload op
 next_store log file payload stores op number is held due good spelling no_less spelled =
     let number_is : number ≡ 1 + length stores = omega (arith, due (count_below log file is), stores_counted log file stores is held) in
-    record { follows = may_follow (last_next_id 1024 stores) op good spelling no_less; spelled = spelled ∙ ap (λ n. payload_of n op) number_is }
+    record { follows = may_follow (next_after 1024 stores) op good spelling no_less; spelled = spelled ∙ ap (λ n. payload_of n op) number_is }

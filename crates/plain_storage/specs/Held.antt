@@ -6,7 +6,8 @@ use Rattle.graph_model.specs.Graph.{Graph, entity_of, has_edge, lists, after}
 use Rattle.type_desc.specs.declared.desc.TypeDesc.{TypeDesc}
 use Rattle.session_model.specs.WellFormed.{IsWellFormed}
 use Rattle.plain_storage.specs.Types.{AreTypesHeld}
-use Rattle.plain_storage.specs.Stores.{HoldsStores, last_next_id}
+use Rattle.plain_storage.specs.Stores.{HoldsStores}
+use Rattle.graph_model.specs.Stores.{next_after}
 
 pub record PlainHeld : Type 0 where
   pub types : List TypeDesc
@@ -26,7 +27,7 @@ pub record IsPlainStored (image0 image1 : List ℕ) (held : PlainHeld) : Type 0 
   pub log : HoldsStores image0 stores
   pub graph : held.graph ≡ after [] stores
   pub number : held.number ≡ length stores
-  pub next_id : held.next_id ≡ last_next_id 1024 stores
+  pub next_id : held.next_id ≡ next_after 1024 stores
   pub sound : IsSoundGraph held.types held.graph
 
 -- the images hold nothing

@@ -9,7 +9,8 @@ use Rattle.graph_model.specs.declared.entity.Record.{Record}
 use Rattle.graph_model.specs.declared.entity.StoreOp.{StoreOp}
 use Rattle.type_desc.specs.declared.desc.TypeDesc.{TypeDesc}
 use Rattle.session_model.specs.WellFormed.{IsWellFormed}
-use Rattle.plain_storage.specs.Stores.{HoldsStores, record_bytes, payload_of, payloads_of_stores, IsObject, MayFollow, AllMayFollow, last_next_id}
+use Rattle.plain_storage.specs.Stores.{HoldsStores, record_bytes, payload_of, payloads_of_stores, IsObject, MayFollow, AllMayFollow}
+use Rattle.graph_model.specs.Stores.{next_after}
 
 -- the records, put one after another
 abbrev pub put_each : List Record → Graph → Graph
@@ -37,14 +38,14 @@ pub record AreStores (number before : ℕ) (payloads : List (List ℕ)) (next_id
   pub stores : List StoreOp
   pub follow : AllMayFollow before stores
   pub spelled : payloads ≡ payloads_of_stores number stores
-  pub next_is : next_id ≡ last_next_id before stores
+  pub next_is : next_id ≡ next_after before stores
   pub made : new ≡ after old stores
 
 -- the image is the log of stores that leave this next id and this graph
 pub record AreStoresHeld (image : List ℕ) (next_id : ℕ) (graph : Graph) : Type 0 where
   pub stores : List StoreOp
   pub log : HoldsStores image stores
-  pub next_is : next_id ≡ last_next_id 1024 stores
+  pub next_is : next_id ≡ next_after 1024 stores
   pub made : graph ≡ after [] stores
 
 -- the next id, the ids below it and the sizes of entities are those that stores leave

@@ -13,7 +13,8 @@ use Rattle.graph_model.specs.declared.ask.StorageFault.TheVariants as asking
 use Rattle.graph_model.specs.declared.entity.Record.{Record}
 use Rattle.graph_model.specs.declared.entity.StoreOp.{StoreOp}
 use Rattle.plain_storage.specs.Keeping.{Plain}
-use Rattle.plain_storage.specs.Stores.{MayFollow, last_next_id, payload_of}
+use Rattle.plain_storage.specs.Stores.{MayFollow, payload_of}
+use Rattle.graph_model.specs.Stores.{next_after}
 
 -- n is how many ids of the graph are reached from the root and the held ids
 pub record IsKeptCount (graph : Graph) (held : List ℕ) (n : ℕ) : Type 0 where
@@ -43,7 +44,7 @@ pub record IsGoodStore (op : StoreOp) : Type 0 where
 
 -- the payload is that of a store that may follow these, with the next number
 pub record IsNextStore (stores : List StoreOp) (payload : List ℕ) (op : StoreOp) : Type 0 where
-  pub follows : MayFollow (last_next_id 1024 stores) op
+  pub follows : MayFollow (next_after 1024 stores) op
   pub spelled : payload ≡ payload_of (1 + length stores) op
 
 -- a fault of a log is one of the storage; a full log is told by the number of the store that is due

@@ -43,11 +43,6 @@ abbrev pub AllMayFollow : ℕ → List StoreOp → Type 0
 AllMayFollow before [] = Unit {0}
 AllMayFollow before (op ∷ ops) = MayFollow before op × AllMayFollow op.next_id ops
 
--- the next id of the last store, or this one where there is none
-abbrev pub last_next_id : ℕ → List StoreOp → ℕ
-last_next_id next_id [] = next_id
-last_next_id next_id (op ∷ ops) = last_next_id op.next_id ops
-
 -- the image is the log of these stores, of which each may follow the one before
 pub record HoldsStores (image : List ℕ) (stores : List StoreOp) : Type 0 where
   pub follow : AllMayFollow 1024 stores

@@ -7,7 +7,8 @@ ghost use Rattle.graph_model.specs.declared.ask.StorageFault.{StorageFault as An
 ghost use Rattle.graph_model.specs.declared.entity.StoreOp.{StoreOp as AnyStore};
 ghost use Rattle.plain_storage.specs.Logs.{IsOpen, IsOverLimit};
 ghost use Rattle.plain_storage.specs.Serving.{IsGoodStore, IsNextStore, asked_fault};
-ghost use Rattle.plain_storage.specs.Stores.{HoldsStores, last_next_id, plain_header};
+ghost use Rattle.plain_storage.specs.Stores.{HoldsStores, plain_header};
+ghost use Rattle.graph_model.specs.Stores.{next_after};
 
 use crate::payload::spell_store;
 use gated_log::{AppendFault, GatedLog};
@@ -78,11 +79,11 @@ pub fn keep_store<D: Disk>(
     ensures clean { IsTrue D.tells → OnOk result (Only (D.reads disk.new 0) (D.leaves disk.new 0)) }
 
     // After `Ok` the file holds the store behind those before.
-    ensures kept { IsTrue D.tells → (stores : List AnyStore) → HoldsStores (D.reads disk.old 0) stores → last_next_id 1024 stores ≤ op.now.next_id
+    ensures kept { IsTrue D.tells → (stores : List AnyStore) → HoldsStores (D.reads disk.old 0) stores → next_after 1024 stores ≤ op.now.next_id
         → OnOk result (HoldsStores (D.reads disk.new 0) (stores ++ op.now ∷ [])) }
 
     // Whatever is answered, each image holds the stores from before, or these and the new one.
-    ensures stop { IsTrue D.tells → Only (D.reads disk.old 0) (D.leaves disk.old 0) → (stores : List AnyStore) → HoldsStores (D.reads disk.old 0) stores → last_next_id 1024 stores ≤ op.now.next_id
+    ensures stop { IsTrue D.tells → Only (D.reads disk.old 0) (D.leaves disk.old 0) → (stores : List AnyStore) → HoldsStores (D.reads disk.old 0) stores → next_after 1024 stores ≤ op.now.next_id
         → Each (D.leaves disk.new 0) (λ image. HoldsStores image stores ⊎ HoldsStores image (stores ++ op.now ∷ [])) }
     ensures others { IsTrue D.tells → OthersStay 0 (D.reads disk.old) (D.reads disk.new) (D.leaves disk.old) (D.leaves disk.new) }
     ensures count { OnOk result (log.new.count ≡ log.old.count + 1) }

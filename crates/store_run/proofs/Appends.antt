@@ -6,7 +6,7 @@ use Rattle.graph_model.specs.Graph.{Graph, after, put_all}
 use Rattle.session_model.specs.Answer.{State, turn}
 use Rattle.session_lines.specs.Limits.{most_bytes}
 use Rattle.plain_storage.specs.Held.{PlainHeld}
-use Rattle.plain_storage.specs.Stores.{last_next_id}
+use Rattle.graph_model.specs.Stores.{next_after}
 use Rattle.store_run.specs.Answer.{answers, held_after, held_behind, held_with, opened_on, state_after, stores_of}
 
 pub state_after-append : (state : State) (lines more : List (List ℕ)) → state_after state (lines ++ more) ≡ state_after (state_after state lines) more
@@ -31,7 +31,7 @@ pub after-append : (graph : Graph) (stores more : List StoreOp) → after graph 
 after-append graph [] more = refl
 after-append graph (op ∷ stores) more = after-append (put_all op.records graph) stores more
 
-pub last_next_id-append : (next_id : ℕ) (stores more : List StoreOp) → last_next_id next_id (stores ++ more) ≡ last_next_id (last_next_id next_id stores) more
+pub last_next_id-append : (next_id : ℕ) (stores more : List StoreOp) → next_after next_id (stores ++ more) ≡ next_after (next_after next_id stores) more
 last_next_id-append next_id [] more = refl
 last_next_id-append next_id (op ∷ stores) more = last_next_id-append op.next_id stores more
 

@@ -18,7 +18,7 @@ use Rattle.session.specs.declared.session.SessionStep.TheVariants as step
 use Rattle.session_lines.proofs.TypeWords.{records_behind}
 use Rattle.plain_storage.specs.Held.{IsSoundGraph, PlainHeld}
 use Rattle.plain_storage.specs.Keeping.{IsNext, MayServe, Plain, held_in, storage_of, types_with}
-use Rattle.plain_storage.specs.Stores.{last_next_id}
+use Rattle.graph_model.specs.Stores.{next_after}
 use Rattle.store_run.specs.Answer.{held_behind}
 use Rattle.store_run.specs.Within.{IsBefore, IsBehind, IsWithin, LineBegun, MakesOne, MayCarry, any_record}
 use Rattle.store_run.proofs.RecordLengths.{record_fits, record_some}
@@ -132,7 +132,7 @@ pub record Follows (line : LineBegun) (ask : Ask) (plain : Plain) (types : List 
 
 -- what is held after these stores, with these types
 abbrev pub held_by : PlainHeld → List TypeDesc → List StoreOp → PlainHeld
-held_by held types stores = record { types = types; graph = after held.graph stores; number = held.number + length stores; next_id = last_next_id held.next_id stores }
+held_by held types stores = record { types = types; graph = after held.graph stores; number = held.number + length stores; next_id = next_after held.next_id stores }
 
 same_held : (plain new : Plain) (types : List TypeDesc) → new.graph ≡ plain.graph → new.stores_log.count ≡ plain.stores_log.count → new.next_id ≡ plain.next_id
     → held_in new types ≡ held_in plain types

@@ -6,7 +6,7 @@ use Rattle.graph_model.specs.Graph.{after}
 use Rattle.session_model.specs.Answer.{State, turn}
 use Rattle.session_lines.specs.Limits.{most_bytes}
 use Rattle.plain_storage.specs.Held.{IsPlainStored, PlainHeld}
-use Rattle.plain_storage.specs.Stores.{last_next_id}
+use Rattle.graph_model.specs.Stores.{next_after}
 use Rattle.store_run.specs.Acknowledged.{acknowledged, says_stored}
 use Rattle.store_run.specs.Answer.{answer, held_with, opened_on, state_after, stores_of}
 use Rattle.store_run.specs.Lines.{lines_of}
@@ -38,7 +38,7 @@ holds_count start state stores more all n image0 image1 split low high held =
       one_more = high;
       within = omega (arith, ap length split, length-append stores more);
       types = state.types;
-      held = subst (λ (l : List StoreOp). IsPlainStored image0 image1 (record { types = state.types; graph = after start.graph l; number = start.number + count; next_id = last_next_id start.next_id l }))
+      held = subst (λ (l : List StoreOp). IsPlainStored image0 image1 (record { types = state.types; graph = after start.graph l; number = start.number + count; next_id = next_after start.next_id l }))
           (sym (ap (λ (l : List StoreOp). take count l) split ∙ take_at stores more count refl)) held;
     }
 

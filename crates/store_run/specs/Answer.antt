@@ -5,7 +5,7 @@ use Rattle.graph_model.specs.Graph.{after}
 use Rattle.session_model.specs.Answer.{Answer, State, Turn, answer_from, opened, turn}
 use Rattle.session_lines.specs.Limits.{most_bytes}
 use Rattle.plain_storage.specs.Held.{PlainHeld}
-use Rattle.plain_storage.specs.Stores.{last_next_id}
+use Rattle.graph_model.specs.Stores.{next_after}
 use Rattle.store_run.specs.Lines.{lines_of}
 
 -- where a script begins over what is held
@@ -36,7 +36,7 @@ held_with held state stores = record {
   types = state.types;
   graph = after held.graph stores;
   number = held.number + length stores;
-  next_id = last_next_id held.next_id stores;
+  next_id = next_after held.next_id stores;
 }
 
 -- what is held behind a line's turn

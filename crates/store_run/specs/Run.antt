@@ -5,7 +5,7 @@ use Rattle.graph_model.specs.Graph.{after}
 use Rattle.type_desc.specs.declared.desc.TypeDesc.{TypeDesc}
 use Rattle.plain_storage.specs.Held.{IsPlainStored, PlainHeld}
 use Rattle.plain_storage.specs.Images.{AreClean, EachPair}
-use Rattle.plain_storage.specs.Stores.{last_next_id}
+use Rattle.graph_model.specs.Stores.{next_after}
 use Rattle.store_run.specs.Lines.{lines_of}
 use Rattle.store_run.specs.Answer.{answer, answers, held_after, opened_on, state_after}
 use Rattle.store_run.specs.Full.{IsFullForNext}
@@ -58,7 +58,7 @@ pub record HoldsAcknowledged (start : PlainHeld) (stores : List StoreOp) (acknow
     types = types;
     graph = after start.graph (take count stores);
     number = start.number + count;
-    next_id = last_next_id start.next_id (take count stores);
+    next_id = next_after start.next_id (take count stores);
   })
 
 -- the files hold this, and a stop leaves nothing else of them

@@ -1,5 +1,5 @@
 use Rattle.std.proofs.Common.{◌≡◌, drop}
-use Rattle.core_steps.specs.Core.{next_after}
+use Rattle.graph_model.specs.Stores.{next_after}
 use Rattle.core_steps.proofs.permission.next_before.Given as goal
 
 abbrev pub invariant-loop-op : goal.invariant-loop-op
