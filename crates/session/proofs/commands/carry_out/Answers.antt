@@ -6,10 +6,10 @@ use Rattle.session.proofs.SteadySteps.{if_short_whole, short_whole}
 use Rattle.session.proofs.commands.carry_out.Goals as goal
 
 pub declare_type-requires-clause-grammar : goal.declare_type-requires-clause-grammar
-declare_type-requires-clause-grammar c = (subst IsRead c.in-DeclareType.is c.requires.read).proper
+declare_type-requires-clause-grammar c = subst IsRead c.in-DeclareType.is c.requires.read
 
 pub refactor-requires-clause-one_form : goal.refactor-requires-clause-one_form
-refactor-requires-clause-one_form c = (subst IsRead c.in-Refactor.is c.requires.read).one_form
+refactor-requires-clause-one_form c = subst IsRead c.in-Refactor.is c.requires.read
 
 pub returns-in-DeclareType : goal.returns-in-DeclareType
 returns-in-DeclareType c = rw c.in-DeclareType.is (record {
@@ -43,7 +43,7 @@ returns-in-SetMember c = rw c.in-SetMember.is (record {
   known = c.set_member.ensures.known;
   steady = c.set_member.ensures.steady;
   whole = if_short_whole c.set_member.result c.set_member.ensures.short;
-  meets = λ is_next_type storage state admits at started. c.set_member.ensures.meets is_next_type storage state at (started refl) (subst IsRead c.in-SetMember.is c.requires.read).proper;
+  meets = λ is_next_type storage state admits at started. c.set_member.ensures.meets is_next_type storage state at (started refl) (subst IsRead c.in-SetMember.is c.requires.read);
   few = λ storage state at. if_short_few c.set_member.result storage.graph c.set_member.ensures.short;
 })
 
