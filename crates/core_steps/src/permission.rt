@@ -11,7 +11,8 @@ use crate::event::{Event, Step};
 use crate::sets::{edges_of, ids_of};
 use crate::state::{Book, Channels, CoreState};
 use graph_model::{
-    ENTITY_LIMIT, Entity, FIRST_ID, Graph, ID_LIMIT, Ids, NoMemory, ROOT_ID, Record, STORE_LIMIT, StoreOp, after,
+    ENTITY_LIMIT, Entity, FIRST_ID, Graph, ID_LIMIT, Ids, NoMemory, ROOT_ID, Record, STORE_LIMIT,
+    StoreOp, after,
 };
 use std::alloc::Global;
 

@@ -11,6 +11,14 @@ abbrev pub IsDoneNext : Option Entity → Progress → Progress → LoadStep →
 IsDoneNext (Some entity) old new (steps.Want id) = has old.asked old.done ≡ false → new.done ≡ insert old.asked old.done
 IsDoneNext _ old new step = Unit {0}
 
+-- what is asked for is not done
+abbrev pub IsUndone : Progress → Type 0
+IsUndone p = has p.asked p.done ≡ false
+
+abbrev pub IsUndoneNext : Progress → LoadStep → Type 0
+IsUndoneNext p (steps.Want id) = IsUndone p
+IsUndoneNext p step = Unit {0}
+
 -- an id that is asked for is the one whose entity the next call takes
 abbrev pub IsAskedNext : Progress → LoadStep → Type 0
 IsAskedNext p (steps.Want id) = p.asked ≡ id

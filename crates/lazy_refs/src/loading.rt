@@ -6,7 +6,7 @@ ghost use Rattle.graph_model.specs.Ids.{rises};
 ghost use Rattle.refactor_table.specs.declared.name.Pair.{Pair as AnyPair};
 ghost use Rattle.session_model.specs.Instances.{Instances};
 ghost use Rattle.type_desc.specs.declared.desc.TypeDesc.{TypeDesc as AnyDesc};
-ghost use Rattle.lazy_refs.specs.Advances.{IsAskedNext, IsDoneNext};
+ghost use Rattle.lazy_refs.specs.Advances.{IsAskedNext, IsDoneNext, IsUndone, IsUndoneNext};
 ghost use Rattle.lazy_refs.specs.Steps.{IsBrokenAtAsked, IsGiven, IsLoading, IsStep, IsTypedStep};
 ghost use Rattle.lazy_refs.specs.Mappings.{AreMappings, AreTypedIn, Becomes, IsTyped, seen};
 ghost use Rattle.lazy_refs.specs.Walks.{AreKnown, Ends, IsNextStep, IsAsFar, IsNext, Takes, Turns, TurnsBy, TurnsWith, begun, lower_of, of_reason};
@@ -261,6 +261,8 @@ impl Loading {
         ensures broken { IfOk result (IsBrokenAtAsked types.now self.old given) }
         ensures done { IfOk result (IsDoneNext given self.old self.new) }
         ensures asks { IfOk result (IsAskedNext self.new) }
+        // An id that is asked for was not taken before.
+        ensures undone { IsUndone self.old → IfOk result (IsUndoneNext self.new) }
         // In every graph that has the entity, the walk is where it should be.
         ensures step { (g : Graph) (start : ℕ) → IsLoading types.now table.now registry.now.instances g start self.old → IsGiven g self.old given
             → IfOk result (IsStep types.now table.now registry.now.instances g start self.new) }

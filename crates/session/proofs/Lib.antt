@@ -2,7 +2,6 @@ pub mod StoreLines
 pub mod BigStores
 pub mod Beginning
 pub mod ExportAsks
-pub mod OneForm
 pub mod ReadLines
 pub mod LoadWalks
 pub mod LoadedStates

@@ -24,7 +24,7 @@ abbrev pub walked : State → Graph
 walked state = loading_graph state.types state.pairs state.instances state.graph
 
 walked_edge : (state : State) → IsSound state → (x y : ℕ) → has_edge (walked state) x y ≡ true → has_edge state.graph x y ≡ true
-walked_edge state s x y edge = loading_edge_is state.types state.pairs state.instances state.next_id state.graph x y s.types s.pairs s.graph edge
+walked_edge state s x y edge = loading_edge_is state.types state.pairs state.instances state.next_id state.graph x y s.types s.root_spared s.graph edge
 
 start_listed : (state : State) → IsSound state → (start : ℕ) → IsToLoad state start → lists state.graph start ≡ true
 start_listed state s start (inl root) = subst (λ (z : ℕ). lists state.graph z ≡ true) (sym root.0) root.2

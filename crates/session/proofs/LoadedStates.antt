@@ -76,6 +76,7 @@ pub loaded_sound : (state : State) (id : ℕ) (ks : Instances) → IsSound state
 loaded_sound state id ks s started loads = record {
   types = s.types;
   pairs = s.pairs;
+  root_spared = s.root_spared;
   low = s.low;
   high = s.high;
   graph = s.graph;
@@ -90,7 +91,7 @@ loaded_sound state id ks s started loads = record {
 }
   where
     f : IsFilled state.types state.next_id state.graph state.instances ks id
-    f = filled state.types state.pairs state.next_id state.graph state.instances id ks s.types s.pairs s.graph s.order s.each loads
+    f = filled state.types state.pairs state.next_id state.graph state.instances id ks s.types s.root_spared s.graph s.order s.each loads
 
 -- what is loaded at the start is what the model's script begins with
 pub first_loaded : (state : State) → IsSound state → state.started ≡ false → lists state.graph 1 ≡ true → first_instances state ≡ load state.types state.pairs state.graph state.instances 1

@@ -15,12 +15,11 @@ use Rattle.session_lines.specs.Loads.{IsRead}
 use Rattle.session_lines.specs.Refusals.{refused_text}
 use Rattle.session_lines.specs.declared.memory.Memory.{Memory}
 use Rattle.session_lines.specs.declared.refusal.Refusal.TheVariants.{BadLine}
-use Rattle.session.proofs.OneForm.{spelled_one_form}
 use Rattle.session_lines.proofs.Lines.{refused_no_feed}
 use Rattle.session_lines.proofs.Told.{answers_turn}
 
 pub is_read : (text : List ℕ) (command : ReadCommand) → command_of text ≡ Some (meant command) → IsRead command
-is_read text command found = record { proper = spelled_proper text (meant command) found; one_form = spelled_one_form text (meant command) found }
+is_read text command found = spelled_proper text (meant command) found
 
 pub turn_read : (most : ℕ) (state : State) (text : List ℕ) (c : Option Command) → command_of text ≡ c → turn most state text ≡ turn_of most state c
 unfolding turn

@@ -1,6 +1,6 @@
 -- What a session keeps for itself over the steps of a line.
-use Rattle.std.proofs.Common.{◌≡◌, ℕ, List, Option, Some, None, Result, Ok, Err, refl, sym, ap, ◌∙◌, subst}
-use Rattle.std.specs.Prelude.{IfOk}
+use Rattle.std.proofs.Common.{◌≡◌, ◌<◌, ◌^◌, ℕ, true, List, Option, Some, None, Result, Ok, Err, refl, sym, ap, ◌∙◌, subst}
+use Rattle.std.specs.Prelude.{IfOk, is_some}
 use Rattle.std.proofs.lemmas.Result.{IfOk-weaker}
 use Rattle.graph_model.specs.declared.ask.Ask.{Ask}
 use Rattle.graph_model.specs.declared.ask.Ask.TheVariants as asks
@@ -21,16 +21,18 @@ use Rattle.session_lines.specs.declared.outcome.Outcome.TheVariants as outcomes
 use Rattle.session_lines.specs.declared.outcome.Phase.{Phase}
 use Rattle.session_lines.specs.declared.outcome.Phase.TheVariants as phases
 use Rattle.session_lines.specs.declared.outcome.Purpose.{Purpose}
+use Rattle.session_lines.specs.declared.outcome.Waiting.TheVariants as waits
+use Rattle.session.specs.declared.session.SessionStep.TheVariants as turns
 use Rattle.session_lines.specs.declared.outcome.Purpose.TheVariants as purposes
 use Rattle.session_lines.specs.declared.refusal.Stop.{Stop}
 use Rattle.session_lines.specs.declared.refusal.Stop.TheVariants.{Refused, NoMemory}
 use Rattle.session_lines.specs.Broken.{IsBrokenAt, Taken, broken_by, broken_by_export, broken_by_loading, taken_for}
 use Rattle.session_lines.specs.Due.{SuitsPhase}
 use Rattle.session_lines.specs.Exports.{Exported, IsUnbrokenStep, IsDueNext}
-use Rattle.session.specs.Fitting.{IsReplyTo, TakesReply}
+use Rattle.session.specs.Fitting.{IsReplyTo, LooksUp, TakesReply}
 use Rattle.session.specs.LoadSteps.{IsFailure, IsTypedEnd}
 use Rattle.session_lines.specs.Refusals.{IsOutcomeOf}
-use Rattle.session_lines.specs.Steady.{IsSteadyOutcome, IsSteadyPurpose}
+use Rattle.session_lines.specs.Steady.{IsSmallId, IsSteadyOutcome, IsSteadyPhase, IsSteadyPurpose}
 use Rattle.session_lines.specs.Steps.{IsShort}
 
 -- ---- the loading
@@ -152,3 +154,30 @@ takes_reply ask phases.Collecting reply suits is = takes_count ask reply suits i
 takes_reply ask (phases.Looking loading purpose) reply suits is = takes_loaded ask loading purpose reply suits is
 takes_reply ask (phases.Holding purpose) reply suits is = takes_held ask purpose reply suits is
 takes_reply ask (phases.Exporting export) reply suits is = takes_exported ask export reply suits is
+
+-- ---- what is looked up
+
+pub some_small : (asked : Option ℕ) → IsSmallId asked → is_some asked ≡ true
+some_small None small = absurd small
+some_small (Some id) small = refl
+
+export_looks_up : (export : Exported) (x : ℕ) → export.asked ≡ Some x → IsSmallId export.asked → LooksUp (turns.Ask (asks.Look x)) (waits.ForReply (phases.Exporting export))
+export_looks_up export x is small = (is, subst IsSmallId is small)
+
+-- a phase that waits for an entity looks up the id that is asked for
+pub looks_up : (memory : Memory) (ask : Ask) (phase : Phase) → SuitsPhase ask phase → IsSteadyPhase memory phase → LooksUp (turns.Ask ask) (waits.ForReply phase)
+looks_up memory (asks.Look x) (phases.Looking loading purpose) suits steady = (ap (λ (n : ℕ). Some n) suits, subst (λ (n : ℕ). n < 2 ^ 64) suits steady.0.small)
+looks_up memory (asks.Look x) (phases.Exporting export) suits steady = export_looks_up export x suits steady
+looks_up memory (asks.Look x) phase suits steady = absurd suits
+looks_up memory (asks.Hold xs) (phases.Holding purpose) suits steady = refl
+looks_up memory (asks.Hold xs) phase suits steady = absurd suits
+looks_up memory (asks.Release xs) (phases.Saying text) suits steady = refl
+looks_up memory (asks.Release xs) phase suits steady = absurd suits
+looks_up memory (asks.Store op) (phases.Storing count) suits steady = refl
+looks_up memory (asks.Store op) phase suits steady = absurd suits
+looks_up memory (asks.KeepType bytes) (phases.Saying text) suits steady = refl
+looks_up memory (asks.KeepType bytes) phase suits steady = absurd suits
+looks_up memory asks.Collect phases.Collecting suits steady = refl
+looks_up memory asks.Collect phase suits steady = absurd suits
+looks_up memory asks.Tidy (phases.Saying text) suits steady = refl
+looks_up memory asks.Tidy phase suits steady = absurd suits

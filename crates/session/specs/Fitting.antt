@@ -1,9 +1,10 @@
 -- What may be given to a session, by what it waits for.
-use Rattle.std.specs.Prelude.{List, ℕ}
+use Rattle.std.specs.Prelude.{◌≡◌, ◌<◌, ◌^◌, ℕ, List, Some, None}
 use Rattle.graph_model.specs.declared.ask.Ask.{Ask}
 use Rattle.graph_model.specs.declared.ask.Ask.TheVariants as asks
 use Rattle.graph_model.specs.declared.ask.Reply.{Reply}
 use Rattle.graph_model.specs.declared.ask.Reply.TheVariants as replies
+use Rattle.session_lines.specs.Broken.{looked_up}
 use Rattle.session_lines.specs.declared.outcome.Phase.{Phase}
 use Rattle.session_lines.specs.declared.outcome.Phase.TheVariants as phases
 use Rattle.session_lines.specs.declared.outcome.Waiting.{Waiting}
@@ -33,6 +34,11 @@ TakesReply (phases.Looking loading purpose) (replies.Found entity) = Unit {0}
 TakesReply (phases.Holding purpose) replies.Held = Unit {0}
 TakesReply (phases.Exporting export) (replies.Found entity) = Unit {0}
 TakesReply _ _ = ⊥
+
+-- what is looked up is what is asked for, an id of 64 bits; behind each other step nothing is looked up
+abbrev pub LooksUp : Step → Waiting → Type 0
+LooksUp (step.Ask (asks.Look x)) waiting = (looked_up waiting ≡ Some x) × (x < 2 ^ 64)
+LooksUp _ waiting = looked_up waiting ≡ None
 
 -- a line at first and after `Done`, a reply after `Ask`, and `Printed` after `Print`
 abbrev pub Fits : Given → Waiting → Type 0

@@ -1,6 +1,7 @@
 //! What a command comes to.
 
 ghost use Rattle.std.specs.Prelude.{◌≡◌, ◌<◌, ◌+◌, ◌*◌, ◌&&◌, not, ℕ, Bool, List, true, Some, None, length, IfOk, OnOk};
+ghost use Rattle.graph_model.specs.Graph.{Graph};
 ghost use Rattle.graph_model.specs.Served.{Storage};
 ghost use Rattle.session_model.specs.Answer.{State, command_turn, needs_start, turn_of};
 ghost use Rattle.script_text.specs.Meaning.{meant};
@@ -31,7 +32,7 @@ pub fn carry_out(memory: &mut Memory, command: Command) -> Result<Outcome, NoMem
     ensures whole { IfOk result (λ outcome. broken_by outcome ≡ None) }
     ensures meets { (is_next_type : List (List ℕ) → List ℕ → Bool) (storage : Storage) (state : State) → Admits is_next_type → IsAtState memory.old storage state
         → (needs_start (meant command) ≡ true → state.started ≡ true) → IfOk result (λ outcome. Meets is_next_type outcome memory.new storage (command_turn most_bytes state (meant command))) }
-    ensures few { (storage : Storage) (state : State) → IsAtState memory.old storage state → IfOk result (λ outcome. outcome_steps outcome storage.graph < 4 * length storage.graph + 4) }
+    ensures few { (g : Graph) → IfOk result (λ outcome. outcome_steps outcome g < 4 * length g + 4) }
 {
     match command {
         Command::DeclareType(desc) => declare_type(memory, &desc),

@@ -9,9 +9,9 @@ ghost use Rattle.session_lines.specs.Broken.{IsBrokenAt, broken_by, broken_by_ex
 ghost use Rattle.session_lines.specs.Due.{Meets};
 ghost use Rattle.session_lines.specs.ExportEnds.{IsRestBehind, steps_behind};
 ghost use Rattle.session_lines.specs.Exports.{IsDueNext, IsExportStep, IsTellingFor, TellsEntity};
-ghost use Rattle.session_lines.specs.Steady.{IsSteadyOutcome};
+ghost use Rattle.session_lines.specs.Steady.{IsSmallId, IsSteadyOutcome};
 ghost use Rattle.session_lines.specs.declared.memory.Memory.{Memory as AnyMemory};
-ghost use Rattle.session_lines.specs.Steps.{export_steps, outcome_steps};
+ghost use Rattle.session_lines.specs.Steps.{IsListed, export_steps, outcome_steps};
 
 use graph_model::{Ask, Entity, NoMemory, ROOT_ID};
 use session_lines::{Export, ExportStep, Memory, Outcome, Phase};
@@ -48,7 +48,7 @@ pub fn export(memory: &Memory) -> Result<Outcome, NoMemory>
         → IfOk result (λ outcome. Meets is_next_type outcome memory.now storage (export_turn state)) }
     ensures steady { IfOk result (IsSteadyOutcome memory.now) }
     ensures whole { IfOk result (λ outcome. broken_by outcome ≡ None) }
-    ensures few { (storage : Storage) → IfOk result (λ outcome. outcome_steps outcome storage.graph ≤ 4 * length storage.graph + 1) }
+    ensures few { (g : Graph) → IfOk result (λ outcome. outcome_steps outcome g ≤ 4 * length g + 1) }
 {
     let rooted = has_root(memory);
     let mut export = Export::start(memory.alloc, rooted);
@@ -58,11 +58,12 @@ pub fn export(memory: &Memory) -> Result<Outcome, NoMemory>
 
 /// Takes the entity that the export asked for.
 pub fn export_on(memory: &Memory, mut export: Export, entity: Entity) -> Result<Outcome, NoMemory>
+    requires { IsSmallId export.asked }
     ensures meets { (is_next_type : List (List ℕ) → List ℕ → Bool) (storage : Storage) (due : Turn) → TellsEntity export entity memory.now storage due
         → IfOk result (λ outcome. Meets is_next_type outcome memory.now storage due) }
     ensures steady { IfOk result (IsSteadyOutcome memory.now) }
     ensures broken { IfOk result (λ outcome. IsBrokenAt memory.now.types (taken_for export.asked (Some entity)) (broken_by outcome)) }
-    ensures nearer { (storage : Storage) (due : Turn) → TellsEntity export entity memory.now storage due → IfOk result (λ outcome. outcome_steps outcome storage.graph < export_steps export storage.graph) }
+    ensures nearer { (g : Graph) → IsListed export.asked g → IfOk result (λ outcome. outcome_steps outcome g < export_steps export g) }
 {
     let step = export.next(&memory.types, Some(entity))?;
     Ok(outcome_of_step(step, export))
@@ -74,7 +75,7 @@ pub fn export_behind(memory: &Memory, mut export: Export) -> Result<Outcome, NoM
         → IfOk result (λ outcome. Meets is_next_type outcome memory.now storage due) }
     ensures steady { IfOk result (IsSteadyOutcome memory.now) }
     ensures whole { IfOk result (λ outcome. broken_by outcome ≡ None) }
-    ensures nearer { (storage : Storage) (due : Turn) → IsTellingFor export memory.now storage due → IfOk result (λ outcome. outcome_steps outcome storage.graph ≤ export_steps export storage.graph) }
+    ensures few { (g : Graph) → IfOk result (λ outcome. outcome_steps outcome g ≤ export_steps export g) }
 {
     let step = export.next(&memory.types, None)?;
     Ok(outcome_of_step(step, export))

@@ -187,8 +187,7 @@ pub fn load_on(
     ensures broken { IfOk result (λ outcome. IsBrokenAt memory.old.types (taken_for (Some loading.asked) (Some entity)) (broken_by outcome)) }
     ensures meets { (is_next_type : List (List ℕ) → List ℕ → Bool) (storage : Storage) (due : Turn) → TakesEntity purpose loading entity memory.old storage due
         → IfOk result (λ outcome. Meets is_next_type outcome memory.new storage due) }
-    ensures nearer { (storage : Storage) (due : Turn) → TakesEntity purpose loading entity memory.old storage due
-        → IfOk result (λ outcome. outcome_steps outcome storage.graph < phase_steps (AnyPhase.Looking loading purpose) storage.graph) }
+    ensures nearer { (g : Graph) → lists g loading.asked ≡ true → IfOk result (λ outcome. outcome_steps outcome g < phase_steps (AnyPhase.Looking loading purpose) g) }
 {
     let step = loading.next(&memory.registry, &memory.types, &memory.table, Some(entity))?;
     take_step(memory, loading, step, purpose)
@@ -244,7 +243,7 @@ pub fn follow(
     ensures whole { IfOk result (λ outcome. broken_by outcome ≡ None) }
     ensures meets { (is_next_type : List (List ℕ) → List ℕ → Bool) (storage : Storage) (state : State) → IsAtState memory.old storage state → state.started ≡ true
         → IfOk result (λ outcome. Meets is_next_type outcome memory.new storage (follow_turn state name.now member.now new)) }
-    ensures few { (storage : Storage) (state : State) → IsAtState memory.old storage state → IfOk result (λ outcome. outcome_steps outcome storage.graph ≤ length storage.graph + 3) }
+    ensures few { (g : Graph) → IfOk result (λ outcome. outcome_steps outcome g ≤ length g + 3) }
 {
     match follow_id(memory, name, member, &new) {
         Ok(id) => bind_or_load(memory, new, id),

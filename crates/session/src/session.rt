@@ -8,14 +8,14 @@ ghost use Rattle.session_model.specs.Answer.{Turn, opened};
 ghost use Rattle.session_model.specs.Sound.{AreTypes, IsRightGraph};
 ghost use Rattle.session.specs.BrokenSteps.{IsBrokenWhere, broken_at};
 ghost use Rattle.session.specs.Dealing.{AfterPrint, AfterReply, BeginsLine, ComesNearer, IsDueStep, MayGive};
-ghost use Rattle.session.specs.Fitting.{Fits, FitsBehind};
+ghost use Rattle.session.specs.Fitting.{Fits, FitsBehind, LooksUp};
 ghost use Rattle.session.specs.Sessions.{session_of};
 ghost use Rattle.session.specs.declared.session.Given.{Given as AnyGiven};
-ghost use Rattle.session_lines.specs.Broken.{broken_by};
+ghost use Rattle.session_lines.specs.Broken.{broken_by, looked_up};
 ghost use Rattle.session_lines.specs.Due.{Meets};
 ghost use Rattle.session_lines.specs.Stands.{Admits, IsAtState};
 ghost use Rattle.session_lines.specs.Steady.{IsSteadyOutcome, IsSteadyWaiting, KnowsObjects};
-ghost use Rattle.session_lines.specs.Steps.{outcome_steps, steps_left};
+ghost use Rattle.session_lines.specs.Steps.{IsListed, outcome_steps, steps_left};
 ghost use Rattle.session_lines.specs.declared.memory.Memory.{Memory as AnyMemory};
 
 use crate::export_line::export_behind;
@@ -63,6 +63,7 @@ struct StepTaken {
 fn behind(outcome: Outcome) -> StepTaken
     ensures steady { (memory : AnyMemory) → IsSteadyOutcome memory outcome → IsSteadyWaiting memory result.waiting }
     ensures fits { (memory : AnyMemory) → IsSteadyOutcome memory outcome → FitsBehind result.step result.waiting }
+    ensures asks { (memory : AnyMemory) → IsSteadyOutcome memory outcome → LooksUp result.step result.waiting }
     ensures broken { broken_at result.step ≡ broken_by outcome }
     ensures gives { (is_next_type : List (List ℕ) → List ℕ → Bool) (memory : AnyMemory) (storage : Storage) (due : Turn) → Meets is_next_type outcome memory storage due
         → IsDueStep is_next_type result.step (session_of memory result.waiting) storage due }
@@ -93,6 +94,7 @@ fn line_given(memory: &mut Memory, text: &Bytes) -> Result<StepTaken, NoMemory>
     ensures known { OnOk result (KnowsObjects memory.new) }
     ensures steady { IfOk result (λ taken. IsSteadyWaiting memory.new taken.waiting) }
     ensures fits { IfOk result (λ taken. FitsBehind taken.step taken.waiting) }
+    ensures asks { IfOk result (λ taken. LooksUp taken.step taken.waiting) }
     ensures whole { IfOk result (λ taken. broken_at taken.step ≡ None) }
     ensures gives { (is_next_type : List (List ℕ) → List ℕ → Bool) (storage : Storage) (due : Turn) → Admits is_next_type → BeginsLine text.now memory.old storage due
         → IfOk result (λ taken. IsDueStep is_next_type taken.step (session_of memory.new taken.waiting) storage due) }
@@ -108,11 +110,11 @@ fn reply_given(memory: &mut Memory, waiting: Waiting, reply: Reply) -> Result<St
     ensures known { OnOk result (KnowsObjects memory.new) }
     ensures steady { IfOk result (λ taken. IsSteadyWaiting memory.new taken.waiting) }
     ensures fits { IfOk result (λ taken. FitsBehind taken.step taken.waiting) }
+    ensures asks { IfOk result (λ taken. LooksUp taken.step taken.waiting) }
     ensures broken { IfOk result (λ taken. IsBrokenWhere (AnyGiven.Reply reply) (session_of memory.old waiting) taken.step) }
     ensures gives { (is_next_type : List (List ℕ) → List ℕ → Bool) (storage : Storage) (due : Turn) → Admits is_next_type → AfterReply waiting reply memory.old storage due
         → IfOk result (λ taken. IsDueStep is_next_type taken.step (session_of memory.new taken.waiting) storage due) }
-    ensures nearer { (storage : Storage) (due : Turn) → AfterReply waiting reply memory.old storage due
-        → IfOk result (λ taken. steps_left taken.waiting storage.graph < steps_left waiting storage.graph) }
+    ensures nearer { (g : Graph) → IsListed (looked_up waiting) g → IfOk result (λ taken. steps_left taken.waiting g < steps_left waiting g) }
 {
     match waiting {
         Waiting::ForReply(phase) => {
@@ -128,11 +130,11 @@ fn printed(memory: &Memory, waiting: Waiting) -> Result<StepTaken, NoMemory>
     requires steady { IsSteadyWaiting memory.now waiting }
     ensures steady { IfOk result (λ taken. IsSteadyWaiting memory.now taken.waiting) }
     ensures fits { IfOk result (λ taken. FitsBehind taken.step taken.waiting) }
+    ensures asks { IfOk result (λ taken. LooksUp taken.step taken.waiting) }
     ensures whole { IfOk result (λ taken. broken_at taken.step ≡ None) }
     ensures gives { (is_next_type : List (List ℕ) → List ℕ → Bool) (storage : Storage) (due : Turn) → AfterPrint waiting memory.now storage due
         → IfOk result (λ taken. IsDueStep is_next_type taken.step (session_of memory.now taken.waiting) storage due) }
-    ensures nearer { (storage : Storage) (due : Turn) → AfterPrint waiting memory.now storage due
-        → IfOk result (λ taken. steps_left taken.waiting storage.graph < steps_left waiting storage.graph) }
+    ensures nearer { (g : Graph) → IfOk result (λ taken. steps_left taken.waiting g < steps_left waiting g) }
 {
     match waiting {
         Waiting::ForPrinted => Ok(StepTaken {
@@ -155,11 +157,11 @@ fn take(memory: &mut Memory, waiting: Waiting, given: Given) -> Result<StepTaken
     ensures known { OnOk result (KnowsObjects memory.new) }
     ensures steady { IfOk result (λ taken. IsSteadyWaiting memory.new taken.waiting) }
     ensures fits { IfOk result (λ taken. FitsBehind taken.step taken.waiting) }
+    ensures asks { IfOk result (λ taken. LooksUp taken.step taken.waiting) }
     ensures broken { IfOk result (λ taken. IsBrokenWhere given (session_of memory.old waiting) taken.step) }
     ensures gives { (is_next_type : List (List ℕ) → List ℕ → Bool) (storage : Storage) (due : Turn) → Admits is_next_type → MayGive given (session_of memory.old waiting) storage due
         → IfOk result (λ taken. IsDueStep is_next_type taken.step (session_of memory.new taken.waiting) storage due) }
-    ensures nearer { (storage : Storage) (due : Turn) → MayGive given (session_of memory.old waiting) storage due
-        → IfOk result (λ taken. ComesNearer given (steps_left waiting storage.graph) (steps_left taken.waiting storage.graph)) }
+    ensures nearer { (g : Graph) → IsListed (looked_up waiting) g → IfOk result (λ taken. ComesNearer given (steps_left waiting g) (steps_left taken.waiting g)) }
 {
     match given {
         Given::Line(text) => line_given(memory, &text),
@@ -223,13 +225,14 @@ impl Session {
     pub fn next(&mut self, given: Given) -> Result<SessionStep, NoMemory>
         requires { Fits given self.old.waiting }
         ensures fits { IfOk result (λ step. FitsBehind step self.new.waiting) }
+        ensures asks { IfOk result (λ step. LooksUp step self.new.waiting) }
         ensures broken { IfOk result (IsBrokenWhere given self.old) }
         // Whatever storage it is that stands there: what may be asked is asked, and what is due is printed.
         ensures gives { (is_next_type : List (List ℕ) → List ℕ → Bool) (storage : Storage) (due : Turn) → Admits is_next_type → MayGive given self.old storage due
             → IfOk result (λ step. IsDueStep is_next_type step self.new storage due) }
-        // A line is answered in finitely many steps.
-        ensures nearer { (storage : Storage) (due : Turn) → MayGive given self.old storage due
-            → IfOk result (λ step. ComesNearer given (steps_left self.old.waiting storage.graph) (steps_left self.new.waiting storage.graph)) }
+        // A line is answered in finitely many steps, whatever the replies say: counted over any graph that lists what was looked up.
+        ensures nearer { (g : Graph) → IsListed (looked_up self.old.waiting) g
+            → IfOk result (λ step. ComesNearer given (steps_left self.old.waiting g) (steps_left self.new.waiting g)) }
     {
         let waiting = std::mem::replace(&mut self.waiting, Waiting::GivenUp);
         let taken = take(&mut self.memory, waiting, given)?;

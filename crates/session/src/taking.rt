@@ -1,7 +1,7 @@
 //! What a line, and the reply to what was asked, come to.
 
 ghost use Rattle.std.specs.Prelude.{◌≡◌, ◌<◌, ℕ, Bool, List, true, Some, None, IfOk, OnOk};
-ghost use Rattle.graph_model.specs.Graph.{Graph};
+ghost use Rattle.graph_model.specs.Graph.{Graph, lists};
 ghost use Rattle.graph_model.specs.Served.{Storage};
 ghost use Rattle.session_model.specs.Answer.{Turn};
 ghost use Rattle.session_lines.specs.Broken.{IsBrokenAt, asked_in, broken_by, entity_in, taken_for};
@@ -10,8 +10,8 @@ ghost use Rattle.session_lines.specs.Due.{Meets, Replied, stored_text};
 ghost use Rattle.session.specs.Fitting.{TakesReply};
 ghost use Rattle.session_lines.specs.Loads.{ComesAfterLoading};
 ghost use Rattle.session_lines.specs.Stands.{Admits};
-ghost use Rattle.session_lines.specs.Steady.{IsSteadyLoading, IsSteadyOutcome, IsSteadyPhase, IsSteadyPurpose, KnowsObjects};
-ghost use Rattle.session_lines.specs.Steps.{outcome_steps, phase_steps, purpose_steps};
+ghost use Rattle.session_lines.specs.Steady.{IsSteadyLoading, IsSteadyOutcome, IsSteadyPhase, IsSteadyPurpose, IsSmallId, KnowsObjects};
+ghost use Rattle.session_lines.specs.Steps.{IsListed, export_steps, outcome_steps, phase_steps, purpose_steps};
 ghost use Rattle.session_lines.specs.declared.memory.Memory.{Memory as AnyMemory};
 ghost use Rattle.session_lines.specs.declared.outcome.Phase.{Phase as AnyPhase};
 
@@ -95,8 +95,7 @@ fn take_loaded(
     ensures broken { IfOk result (λ outcome. IsBrokenAt memory.old.types (taken_for (Some loading.asked) (entity_in reply)) (broken_by outcome)) }
     ensures meets { (is_next_type : List (List ℕ) → List ℕ → Bool) (storage : Storage) (due : Turn) → Replied (AnyPhase.Looking loading purpose) reply memory.old storage due
         → IfOk result (λ outcome. Meets is_next_type outcome memory.new storage due) }
-    ensures nearer { (storage : Storage) (due : Turn) → Replied (AnyPhase.Looking loading purpose) reply memory.old storage due
-        → IfOk result (λ outcome. outcome_steps outcome storage.graph < phase_steps (AnyPhase.Looking loading purpose) storage.graph) }
+    ensures nearer { (g : Graph) → lists g loading.asked ≡ true → IfOk result (λ outcome. outcome_steps outcome g < phase_steps (AnyPhase.Looking loading purpose) g) }
 {
     let Reply::Found(entity) = reply else {
         unreachable!();
@@ -113,7 +112,7 @@ fn go_on(memory: &mut Memory, purpose: Purpose) -> Result<Outcome, NoMemory>
     ensures whole { IfOk result (λ outcome. broken_by outcome ≡ None) }
     ensures meets { (is_next_type : List (List ℕ) → List ℕ → Bool) (storage : Storage) (due : Turn) → Admits is_next_type → ComesAfterLoading purpose memory.old storage due
         → IfOk result (λ outcome. Meets is_next_type outcome memory.new storage due) }
-    ensures nearer { (storage : Storage) (due : Turn) → ComesAfterLoading purpose memory.old storage due → IfOk result (λ outcome. outcome_steps outcome storage.graph < purpose_steps purpose storage.graph) }
+    ensures nearer { (g : Graph) → IfOk result (λ outcome. outcome_steps outcome g < purpose_steps purpose g) }
 {
     match purpose {
         Purpose::Start(command) => carry_out(memory, command),
@@ -122,13 +121,13 @@ fn go_on(memory: &mut Memory, purpose: Purpose) -> Result<Outcome, NoMemory>
 }
 
 fn take_exported(memory: &Memory, export: Export, reply: Reply) -> Result<Outcome, NoMemory>
-    requires { TakesReply (AnyPhase.Exporting export) reply }
+    requires takes { TakesReply (AnyPhase.Exporting export) reply }
+    requires asked { IsSmallId export.asked }
     ensures steady { IfOk result (IsSteadyOutcome memory.now) }
     ensures broken { IfOk result (λ outcome. IsBrokenAt memory.now.types (taken_for export.asked (entity_in reply)) (broken_by outcome)) }
     ensures meets { (is_next_type : List (List ℕ) → List ℕ → Bool) (storage : Storage) (due : Turn) → Replied (AnyPhase.Exporting export) reply memory.now storage due
         → IfOk result (λ outcome. Meets is_next_type outcome memory.now storage due) }
-    ensures nearer { (storage : Storage) (due : Turn) → Replied (AnyPhase.Exporting export) reply memory.now storage due
-        → IfOk result (λ outcome. outcome_steps outcome storage.graph < phase_steps (AnyPhase.Exporting export) storage.graph) }
+    ensures nearer { (g : Graph) → IsListed export.asked g → IfOk result (λ outcome. outcome_steps outcome g < export_steps export g) }
 {
     let Reply::Found(entity) = reply else {
         unreachable!();
@@ -146,7 +145,7 @@ pub fn take_reply(memory: &mut Memory, phase: Phase, reply: Reply) -> Result<Out
     ensures broken { IfOk result (λ outcome. IsBrokenAt memory.old.types (taken_for (asked_in phase) (entity_in reply)) (broken_by outcome)) }
     ensures meets { (is_next_type : List (List ℕ) → List ℕ → Bool) (storage : Storage) (due : Turn) → Admits is_next_type → Replied phase reply memory.old storage due
         → IfOk result (λ outcome. Meets is_next_type outcome memory.new storage due) }
-    ensures nearer { (storage : Storage) (due : Turn) → Replied phase reply memory.old storage due → IfOk result (λ outcome. outcome_steps outcome storage.graph < phase_steps phase storage.graph) }
+    ensures nearer { (g : Graph) → IsListed (asked_in phase) g → IfOk result (λ outcome. outcome_steps outcome g < phase_steps phase g) }
 {
     match phase {
         Phase::Saying(text) => Ok(Outcome::Answer(text)),

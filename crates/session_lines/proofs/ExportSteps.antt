@@ -15,7 +15,7 @@ use Rattle.lazy_refs.specs.Forms.{IsObjectOf}
 use Rattle.session_model.specs.WellFormed.{IsWellFormed}
 use Rattle.session_model.specs.Answer.{State, export_turn, exported}
 use Rattle.session_lines.specs.Lines.{IsLine}
-use Rattle.session_lines.specs.Exports.{Exported, IsExporting, IsFresh, IsInStage, IsLineOf, IsTelling, IsWalking, due, line_at, looked, no_entity, reached_from_root, starts}
+use Rattle.session_lines.specs.Exports.{Exported, IsExporting, IsFresh, IsInStage, IsLineOf, IsTelling, IsUnseen, IsWalking, due, line_at, looked, no_entity, reached_from_root, starts}
 use Rattle.session_lines.specs.declared.exporting.Stage.{Stage}
 use Rattle.session_lines.specs.declared.exporting.Stage.TheVariants as stages
 use Rattle.session_lines.proofs.ExportWalks.{open_is_exported, walks_now}
@@ -42,19 +42,23 @@ due_is_exported state text p id e asked = by p.stage refl
     by stages.Telling is = let t : IsTelling state text p = in_stage stages.Telling state text p is e in
         t.kept id (subst (λ (o : Option ℕ). has id (due o ++ p.left) ≡ true) (sym asked) (or_left (nat_eq id id) (has id p.left) (eq-eqb id id refl)))
 
+-- while it walks, the due id was not looked at
+pub unseen_is_fresh : (p : Exported) (id : ℕ) → IsUnseen p.stage p.asked p.left → p.stage ≡ stages.Walking → p.asked ≡ Some id → has id p.left ≡ false
+unseen_is_fresh p id unseen is asked = subst (λ (o : Option ℕ). IsFresh o p.left) asked (subst (λ (s : Stage). IsUnseen s p.asked p.left) is unseen)
+
 -- where none is due, what waits is open
 pub waits_open : (state : State) (text : List ℕ) (p : Exported) → p.stage ≡ stages.Walking → p.asked ≡ None → IsExporting state text p → (text ≡ []) × IsWalking state.graph (starts state.graph) p.left p.waiting
 waits_open state text p is none e = let t = in_stage stages.Walking state text p is e in
     (t.0, subst (λ (xs : List ℕ). IsWalking state.graph (starts state.graph) p.left xs) (sym (none_more p.waiting)) (subst (λ (o : Option ℕ). IsWalking state.graph (starts state.graph) p.left (p.waiting ++ due o)) none t.1))
 
 -- the next open id is due
-pub asks_on : (state : State) (text front : List ℕ) (p : Exported) (id : ℕ) → p.stage ≡ stages.Walking → p.asked ≡ None → IsExporting state text p
-    → ((g : Graph) (from : List ℕ) → IsWalking g from p.left p.waiting → (has id p.left ≡ false) × IsWalking g from p.left (front ++ id ∷ []))
+pub asks_on : (state : State) (text front : List ℕ) (p : Exported) (id : ℕ) → p.stage ≡ stages.Walking → p.asked ≡ None → IsExporting state text p → has id p.left ≡ false
+    → ((g : Graph) (from : List ℕ) → IsWalking g from p.left p.waiting → IsWalking g from p.left (front ++ id ∷ []))
     → IsExporting state text (record p { asked = Some id; waiting = front })
-asks_on state text front p id is none e next =
+asks_on state text front p id is none e new next =
     let t = waits_open state text p is none e in let n = next state.graph (starts state.graph) t.1 in record {
       graph = e.graph;
-      at = subst (λ (s : Stage). IsInStage s state text (record p { asked = Some id; waiting = front })) (sym is) (t.0, n.1, n.0);
+      at = subst (λ (s : Stage). IsInStage s state text (record p { asked = Some id; waiting = front })) (sym is) (t.0, n, new);
     }
 
 -- the due id was looked at

@@ -6,7 +6,7 @@ use Rattle.std.specs.Str.{bytes_eq}
 use Rattle.std.proofs.lemmas.Bool.{and_from, and_parts, or_cases, or_left, or_right}
 use Rattle.graph_model.specs.Served.{Storage}
 use Rattle.refactor_table.specs.Pairs.{Clashes, ClashesAt, IsFresh, pair_of}
-use Rattle.refactor_table.specs.Names.{same_name}
+use Rattle.refactor_table.specs.Names.{AreOfOneForm, same_name}
 use Rattle.refactor_table.specs.declared.name.Pair.{Pair}
 use Rattle.refactor_table.specs.declared.name.RefName.{RefName}
 use Rattle.refactor_table.specs.declared.name.RefName.TheVariants.{OfType, OfMember}
@@ -101,9 +101,9 @@ pair_refusal memory storage state old new _ at is = absurd is
 
 -- ---- the pair is added
 
-pub pair_answers : (memory : Memory) (table : List Pair) (text : List ℕ) (storage : Storage) (state : State) (old new : RefName) → IsAtState memory storage state → MayBePaired memory.types memory.table old new
+pub pair_answers : (memory : Memory) (table : List Pair) (text : List ℕ) (storage : Storage) (state : State) (old new : RefName) → IsAtState memory storage state → AreOfOneForm old new → MayBePaired memory.types memory.table old new
     → table ≡ memory.table ++ pair_of old new ∷ [] → text ≡ codes "ok" ++ 10 ∷ [] → Answers text (record memory { table = table }) storage (refactor_turn state old new)
-pair_answers memory table text storage state old new at may added told =
+pair_answers memory table text storage state old new at one_form may added told =
     answers_turn (codes "ok") text (record memory { table = table }) storage (paired state old new) (refactor_turn state old new) ok_no_feed told made standing
   where
     made : refactor_turn state old new ≡ ok (paired state old new)
@@ -120,7 +120,7 @@ pair_answers memory table text storage state old new at may added told =
         next_id = at.stands.next_id;
         started = at.stands.started;
         rooted = at.stands.rooted;
-        sound = subst (λ (t : Turn). IsSound t.state) made (refactor_line_sound state old new at.stands.sound);
+        sound = subst (λ (t : Turn). IsSound t.state) made (refactor_line_sound state old new at.stands.sound one_form);
         graph = at.stands.graph;
         number = at.stands.number;
         stored_next = at.stands.stored_next;

@@ -13,6 +13,8 @@ use Rattle.session_lines.specs.declared.outcome.Outcome.{Outcome}
 use Rattle.session_lines.specs.declared.outcome.Outcome.TheVariants as outcomes
 use Rattle.session_lines.specs.declared.outcome.Phase.{Phase}
 use Rattle.session_lines.specs.declared.outcome.Phase.TheVariants as phases
+use Rattle.session_lines.specs.declared.outcome.Waiting.{Waiting}
+use Rattle.session_lines.specs.declared.outcome.Waiting.TheVariants as waits
 
 -- an entity that is given, and the id that was asked for
 pub record Taken : Type 0 where
@@ -50,6 +52,11 @@ abbrev pub asked_in : Phase → Option ℕ
 asked_in (phases.Looking loading purpose) = Some loading.asked
 asked_in (phases.Exporting export) = export.asked
 asked_in _ = None
+
+-- what is looked up while this is waited for
+abbrev pub looked_up : Waiting → Option ℕ
+looked_up (waits.ForReply phase) = asked_in phase
+looked_up _ = None
 
 abbrev pub entity_in : Reply → Option Entity
 entity_in (replies.Found entity) = Some entity

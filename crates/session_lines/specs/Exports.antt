@@ -59,6 +59,11 @@ abbrev pub IsFresh : Option ℕ → List ℕ → Type 0
 IsFresh None seen = Unit {0}
 IsFresh (Some id) seen = has id seen ≡ false
 
+-- while walking, what is asked for was not looked at
+abbrev pub IsUnseen : Stage → Option ℕ → List ℕ → Type 0
+IsUnseen stages.Walking asked seen = IsFresh asked seen
+IsUnseen stages.Telling asked seen = Unit {0}
+
 -- ---- the lines
 
 abbrev pub no_entity : Entity

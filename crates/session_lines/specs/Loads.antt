@@ -3,11 +3,9 @@ use Rattle.std.specs.Prelude.{◌≡◌, ℕ, true, false, Some, None, List}
 use Rattle.graph_model.specs.Graph.{lists}
 use Rattle.graph_model.specs.Served.{Storage}
 use Rattle.graph_model.specs.declared.entity.Entity.{Entity}
-use Rattle.session_model.specs.Commands as model
 use Rattle.session_model.specs.Answer.{State, Turn, bound, command_turn, id_in, loaded_turn, ok, started_turn}
 use Rattle.session_model.specs.Loading.{load}
 use Rattle.session_model.specs.Sound.{IsProperCommand, IsSound, IsToLoad}
-use Rattle.refactor_table.specs.Names.{AreOfOneForm}
 use Rattle.lazy_refs.specs.Mappings.{AreMappings}
 use Rattle.lazy_refs.specs.Steps.{IsGiven, IsLoading}
 use Rattle.lazy_refs.specs.Walks.{Progress}
@@ -19,15 +17,9 @@ use Rattle.session_lines.specs.declared.outcome.Purpose.TheVariants as purposes
 use Rattle.session_lines.specs.Limits.{most_bytes}
 use Rattle.session_lines.specs.Stands.{IsAtState}
 
--- a pair that is added has two types or two members
-abbrev pub HasOneForm : model.Command → Type 0
-HasOneForm (model.Refactor old new) = AreOfOneForm old new
-HasOneForm _ = Unit {0}
-
 -- a command as a line spells it
-pub record IsRead (command : Command) : Type 0 where
-  pub proper : IsProperCommand (meant command)
-  pub one_form : HasOneForm (meant command)
+abbrev pub IsRead : Command → Type 0
+IsRead command = IsProperCommand (meant command)
 
 -- the script begins with the command once the root and what it leads to are loaded
 pub record LoadsToStart (command : Command) (state : State) (start : ℕ) (turn : Turn) : Type 0 where

@@ -1,8 +1,8 @@
 -- How many replies and prints a line still takes at most.
-use Rattle.std.specs.Prelude.{ℕ, ◌+◌, ◌*◌, not, List, length}
+use Rattle.std.specs.Prelude.{◌≡◌, ℕ, ◌+◌, ◌*◌, not, true, Option, Some, None, List, length}
 use Rattle.std.specs.List.{filter}
 use Rattle.graph_model.specs.Ids.{has}
-use Rattle.graph_model.specs.Graph.{Graph}
+use Rattle.graph_model.specs.Graph.{Graph, lists}
 use Rattle.graph_model.specs.declared.entity.Record.{Record}
 use Rattle.session_lines.specs.declared.exporting.Stage.{Stage}
 use Rattle.session_lines.specs.declared.exporting.Stage.TheVariants as stages
@@ -15,6 +15,11 @@ use Rattle.session_lines.specs.declared.outcome.Purpose.TheVariants as purposes
 use Rattle.session_lines.specs.declared.outcome.Waiting.{Waiting}
 use Rattle.session_lines.specs.declared.outcome.Waiting.TheVariants as waits
 use Rattle.session_lines.specs.Exports.{Exported, due}
+
+-- the graph lists what is asked for, if anything is
+abbrev pub IsListed : Option ℕ → Graph → Type 0
+IsListed None g = Unit {0}
+IsListed (Some id) g = lists g id ≡ true
 
 -- how many entities of the graph are not among these ids
 abbrev pub unseen : List ℕ → Graph → ℕ

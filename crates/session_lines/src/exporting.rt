@@ -1,6 +1,6 @@
 //! The line `export`, as a machine of its own: it is given the entities that it asks for, and gives the lines one after another.
 
-ghost use Rattle.std.specs.Prelude.{◌≡◌, ◌≤◌, ◌<◌, ◌++◌, ◌∷◌, [], ℕ, List, Some, None, true, false, is_some, IfOk, OnOk, MatchOption};
+ghost use Rattle.std.specs.Prelude.{◌≡◌, ◌≤◌, ◌<◌, ◌++◌, ◌∷◌, [], ℕ, List, Some, None, true, false, is_some, IfOk, IfSome, OnOk, MatchOption};
 ghost use Rattle.graph_model.specs.Graph.{Graph, entity_of, lists};
 ghost use Rattle.graph_model.specs.Ids.{has};
 ghost use Rattle.graph_model.specs.declared.entity.Entity.{Entity as AnyEntity};
@@ -11,7 +11,7 @@ ghost use Rattle.storer.specs.Gathered.{IsKnown};
 ghost use Rattle.session_lines.specs.Broken.{IsBrokenAt, broken_by_export, taken_for};
 ghost use Rattle.session_lines.specs.Exports.{IsUnbrokenStep, IsDueNext, IsExporting, IsExportStep, IsGiven, IsLineOf, IsWalking, begun, looked, starts};
 ghost use Rattle.session_lines.specs.ExportEnds.{steps_behind};
-ghost use Rattle.session_lines.specs.Steps.{export_steps};
+ghost use Rattle.session_lines.specs.Steps.{IsListed, export_steps};
 
 use crate::answers::numbered_line;
 use crate::telling::with_line_feed;
@@ -73,12 +73,17 @@ impl Model for Export {
       waiting = e.waiting.items;
       count = e.count;
     } };
+
+    ghost use Rattle.session_lines.specs.Exports.{IsUnseen};
+
+    ghost invariant = { λ e. IsUnseen e.stage e.asked e.left.keys };
 }
 
 /// Takes the last waiting id that was not looked at, and those behind it, off the list.
 fn next_waiting(waiting: &mut Vec<u64>, seen: &BTreeSet<u64>) -> Option<u64>
-    ensures { (g : Graph) (starts : List ℕ) → IsWalking g starts seen.now.keys waiting.old.items
-        → MatchOption result (IsWalking g starts seen.now.keys []) (λ id. (has id seen.now.keys ≡ false) × IsWalking g starts seen.now.keys (waiting.new.items ++ id ∷ [])) }
+    ensures unseen { IfSome result (λ id. has id seen.now.keys ≡ false) }
+    ensures walks { (g : Graph) (starts : List ℕ) → IsWalking g starts seen.now.keys waiting.old.items
+        → MatchOption result (IsWalking g starts seen.now.keys []) (λ id. IsWalking g starts seen.now.keys (waiting.new.items ++ id ∷ [])) }
 {
     while let Some(id) = waiting.pop() {
         if !seen.contains(&id) {
@@ -126,9 +131,9 @@ impl Export {
     fn look(&mut self, id: u64, entity: &Entity) -> Result<(), NoMemory>
         ensures { OnOk result (has id self.old.left ≡ false → self.new ≡ looked id entity.now self.old) }
     {
+        self.asked = None;
         self.left.insert(id)?;
         entity.push_edges(&mut self.waiting)?;
-        self.asked = None;
         Ok(())
     }
 
@@ -198,7 +203,7 @@ impl Export {
         ensures step { (state : State) (text : List ℕ) → self.old.stage ≡ Stage.Walking → self.old.asked ≡ Some id → IsExporting state text self.old
             → entity_of state.graph id ≡ Some entity.now → IfOk result (IsExportStep state text self.new) }
         ensures on { IfOk result (IsUnbrokenStep self.new) }
-        ensures nearer { (g : Graph) → self.old.stage ≡ Stage.Walking → has id self.old.left ≡ false → lists g id ≡ true → IfOk result (λ step. steps_behind step self.new g < export_steps self.old g) }
+        ensures nearer { (g : Graph) → self.old.stage ≡ Stage.Walking → self.old.asked ≡ Some id → lists g id ≡ true → IfOk result (λ step. steps_behind step self.new g < export_steps self.old g) }
     {
         match self.look(id, entity) {
             Ok(()) => self.go_on(),
@@ -218,8 +223,7 @@ impl Export {
         ensures step { (state : State) (text : List ℕ) → state.types ≡ types.now → self.old.asked ≡ Some id → IsExporting state text self.old → entity_of state.graph id ≡ Some entity.now
             → IfOk result (IsExportStep state text self.new) }
         ensures on { IfOk result (IsUnbrokenStep self.new) }
-        ensures nearer { (state : State) (text : List ℕ) → self.old.asked ≡ Some id → IsExporting state text self.old → entity_of state.graph id ≡ Some entity.now
-            → IfOk result (λ step. steps_behind step self.new state.graph < export_steps self.old state.graph) }
+        ensures nearer { (g : Graph) → self.old.asked ≡ Some id → lists g id ≡ true → IfOk result (λ step. steps_behind step self.new g < export_steps self.old g) }
     {
         match self.stage {
             Stage::Walking => self.walk(id, entity),
@@ -240,9 +244,9 @@ impl Export {
         // Whether it walks or tells, the form of each entity that was asked for is looked at.
         ensures broken { IfOk result (λ step. IsBrokenAt types.now (taken_for self.old.asked given) (broken_by_export step)) }
         ensures asks { IfOk result (IsDueNext self.new) }
-        // With the entity that was asked for the end is nearer, and without one no farther.
-        ensures nearer { (state : State) (text : List ℕ) → IsExporting state text self.old → is_some self.old.asked ≡ true → is_some given ≡ true → IsGiven state.graph self.old given
-            → IfOk result (λ step. steps_behind step self.new state.graph < export_steps self.old state.graph) }
+        // With an entity for what was asked for the end is nearer, over each graph that lists the id, and without one no farther.
+        ensures nearer { (g : Graph) → is_some self.old.asked ≡ true → is_some given ≡ true → IsListed self.old.asked g
+            → IfOk result (λ step. steps_behind step self.new g < export_steps self.old g) }
         ensures few { (g : Graph) → given ≡ None → IfOk result (λ step. steps_behind step self.new g ≤ export_steps self.old g) }
     {
         let Some(id) = self.asked else {

@@ -63,7 +63,7 @@ loaded_is_kept state y z s may there =
     record {
       reached = reached_stay (loading_graph state.types state.pairs state.instances state.graph) (y ∷ []) (IsReached state.graph (1 ∷ held_ids state.instances)) begin
           (λ w v before edge. reached_on state.graph (1 ∷ held_ids state.instances) w v before
-          (loading_edge_is state.types state.pairs state.instances state.next_id state.graph w v s.types s.pairs s.graph edge)) z
+          (loading_edge_is state.types state.pairs state.instances state.next_id state.graph w v s.types s.root_spared s.graph edge)) z
           (reached-walks (loading_graph state.types state.pairs state.instances state.graph) (y ∷ []) z c.within);
       listed = ap (λ (o : Option Entity). is_some o) c.at;
     }
@@ -131,7 +131,7 @@ loaded_may_be_held state y xs s may within named =
 -- what is loaded from an entity names only what the graph's entity names
 pub loaded_names : (state : State) (x : ℕ) (entity : Entity) (y : ℕ) → IsSound state → entity_of state.graph x ≡ Some entity
     → has y (eager_refs (conversion state.types state.pairs entity)) ≡ true → (y ≡ 0) ⊎ (has_edge state.graph x y ≡ true)
-loaded_names state x entity y s at h = elim (conversion_names state.types state.pairs x entity s.types s.pairs (s.graph.forms x entity at) y h) [
+loaded_names state x entity y s at h = elim (conversion_names state.types state.pairs x entity s.types s.root_spared (s.graph.forms x entity at) y h) [
   | inl nothing ↦ inl nothing
   | inr named ↦ inr (ap (λ (o : Option Entity). has y (edges_of o)) at ∙ named)
 ]

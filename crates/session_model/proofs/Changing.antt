@@ -34,6 +34,7 @@ pub instance_put : (state : State) (x : ℕ) (i : Instance) (next : ℕ) → IsS
 instance_put state x i next s started up high right = record {
   types = s.types;
   pairs = s.pairs;
+  root_spared = s.root_spared;
   low = let low = s.low in omega arith;
   high = high;
   graph = graph_stays state.types state.types state.next_id next state.graph (λ id desc e. e) up s.graph;

@@ -11,7 +11,7 @@ use Rattle.type_desc.specs.declared.desc.TypeDesc.{TypeDesc}
 use Rattle.type_dictionary.specs.Latest.{desc_of, latest_from, latest_of}
 use Rattle.refactor_table.specs.declared.name.Pair.{Pair}
 use Rattle.refactor_table.specs.declared.name.RefName.{RefName}
-use Rattle.refactor_table.specs.Names.{same_name}
+use Rattle.refactor_table.specs.Names.{AreOfOneForm, same_name}
 use Rattle.session_model.specs.Types.{is_root_type, repeats_member, type_in}
 use Rattle.session_model.specs.Answer.{State, Refusal, differs, duplicate, is_full, is_known, ok, refactor_turn, reserved, type_known, type_new, type_turn, wrong_kind}
 use Rattle.session_model.specs.Sound.{IsSound}
@@ -34,9 +34,9 @@ type_line_sound state desc s spelled = judged_sound state refusals (cond (is_kno
     effect true other once full = s
     effect false other once full = type_added state desc s (room (nat_le 65536 (length state.types)) refl full) (record { spelled = spelled; no_repeat = once; not_root = other })
 
-pub refactor_line_sound : (state : State) (old new : RefName) → IsSound state → IsSound (refactor_turn state old new).state
-refactor_line_sound state old new s = judged_sound state refusals (ok (record state { pairs = state.pairs ++ record { old = old; new = new } ∷ [] })) s
-    (λ none. pair_added state (record { old = old; new = new }) s (not_from_false (is_root_type (type_in old) || is_root_type (type_in new)) none.0))
+pub refactor_line_sound : (state : State) (old new : RefName) → IsSound state → AreOfOneForm old new → IsSound (refactor_turn state old new).state
+refactor_line_sound state old new s one_form = judged_sound state refusals (ok (record state { pairs = state.pairs ++ record { old = old; new = new } ∷ [] })) s
+    (λ none. pair_added state (record { old = old; new = new }) s one_form none.1.0 (not_from_false (is_root_type (type_in old) || is_root_type (type_in new)) none.0))
   where
     refusals : List Refusal
     refusals = reserved (is_root_type (type_in old) || is_root_type (type_in new))

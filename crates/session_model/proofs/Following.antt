@@ -23,6 +23,7 @@ loaded_sound : (state : State) (id : ℕ) (ks : Instances) → IsSound state →
 loaded_sound state id ks s started f = record {
   types = s.types;
   pairs = s.pairs;
+  root_spared = s.root_spared;
   low = s.low;
   high = s.high;
   graph = s.graph;
@@ -77,7 +78,7 @@ loaded_turn_sound state new id s started free other there = by (has_instance sta
     of_load : has_instance state.instances id ≡ false → (r : Result Instances (List ℕ)) → load state.types state.pairs state.graph state.instances id ≡ r → IsSound (loaded_turn state new id r).state
     of_load absent (Err code) e = s
     of_load absent (Ok ks) e =
-        let f = filled state.types state.pairs state.next_id state.graph state.instances id ks s.types s.pairs s.graph s.order s.each e in
+        let f = filled state.types state.pairs state.next_id state.graph state.instances id ks s.types s.root_spared s.graph s.order s.each e in
         name_bound (record state { instances = ks }) new id (loaded_sound state id ks s started f) started free other (f.new (listed absent there))
 
     by : (b : Bool) → has_instance state.instances id ≡ b → IsSound (loaded_turn state new id (cond b (Ok state.instances) (load state.types state.pairs state.graph state.instances id))).state

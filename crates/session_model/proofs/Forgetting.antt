@@ -97,6 +97,7 @@ pub forget_line_sound : (state : State) → IsSound state → state.started ≡ 
 forget_line_sound state s started = record {
   types = s.types;
   pairs = s.pairs;
+  root_spared = s.root_spared;
   low = s.low;
   high = s.high;
   graph = s.graph;

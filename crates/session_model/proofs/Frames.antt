@@ -1,7 +1,7 @@
 -- What a change leaves alone: instances stay right where types, graph and objects only grow.
 use Rattle.std.proofs.Common.{◌≡◌, ℕ, ◌-◌, ◌<◌, ◌≤◌, Bool, true, false, cond, ◌&&◌, List, [], ◌∷◌, ◌++◌, length, length-append, slice_get, Some, None, ◌⊎◌, inl, inr, refl, ◌∙◌, subst, arith, zero, suc}
 use Rattle.std.specs.Prelude.{nat_eq, nat_le, nat_lt}
-use Rattle.std.specs.List.{list_all}
+use Rattle.std.specs.List.{list_all, list_any}
 use Rattle.std.proofs.lemmas.Bool.{and_from, and_parts, lt-ltb, ltb-true, or_cases, or_left, or_right}
 use Rattle.graph_model.specs.Graph.{Graph, has_edge, lists}
 use Rattle.graph_model.specs.Stores.{is_good_id}
@@ -10,10 +10,12 @@ use Rattle.type_desc.specs.declared.desc.TypeDesc.{TypeDesc}
 use Rattle.type_desc.specs.Root.{root_desc}
 use Rattle.type_dictionary.specs.Latest.{desc_of}
 use Rattle.refactor_table.specs.declared.name.Pair.{Pair}
+use Rattle.refactor_table.specs.Names.{AreOfOneForm}
 use Rattle.session_model.specs.Instances.{Instance, Instances}
 use Rattle.session_model.specs.Answer.{State, bound, is_bound, is_root_name}
 use Rattle.session_model.specs.WellFormed.{IsWellFormed}
 use Rattle.session_model.specs.Sound.{AreTypes, IsHere, IsRightGraph, IsRightInstance, IsRightType, IsSound, spares_root}
+use Rattle.session_model.proofs.SoundPairs.{one_more_is_sound, shares_name}
 use Rattle.session_model.proofs.Bindings.{bound_or_was, distinct_bound, distinct_dropped, dropped, root_bound, root_dropped, was_bound}
 
 -- ---- what grows
@@ -100,6 +102,7 @@ pub type_added : (state : State) (new : TypeDesc) → IsSound state → length s
 type_added state new s room right = let keeps = keeps_types state.types new in record {
   types = more_types state.types new room right s.types;
   pairs = s.pairs;
+  root_spared = s.root_spared;
   low = s.low;
   high = s.high;
   graph = graph_stays state.types (state.types ++ new ∷ []) state.next_id state.next_id state.graph keeps (omega arith) s.graph;
@@ -121,10 +124,12 @@ all_more [] pair all one = and_from (spares_root pair) true one refl
 all_more (p ∷ pairs) pair all one = let t = and_parts (spares_root p) (list_all spares_root pairs) all in
     and_from (spares_root p) (list_all spares_root (pairs ++ pair ∷ [])) t.0 (all_more pairs pair t.1 one)
 
-pub pair_added : (state : State) (pair : Pair) → IsSound state → spares_root pair ≡ true → IsSound (record state { pairs = state.pairs ++ pair ∷ [] })
-pair_added state pair s spares = record {
+pub pair_added : (state : State) (pair : Pair) → IsSound state → AreOfOneForm pair.old pair.new → list_any (shares_name pair.old pair.new) state.pairs ≡ false → spares_root pair ≡ true
+    → IsSound (record state { pairs = state.pairs ++ pair ∷ [] })
+pair_added state pair s one_form fresh spares = record {
   types = s.types;
-  pairs = all_more state.pairs pair s.pairs spares;
+  pairs = one_more_is_sound state.pairs pair s.pairs one_form fresh;
+  root_spared = all_more state.pairs pair s.root_spared spares;
   low = s.low;
   high = s.high;
   graph = s.graph;
@@ -146,6 +151,7 @@ pub name_bound : (state : State) (name : List ℕ) (id : ℕ) → IsSound state 
 name_bound state name id s started free other here = record {
   types = s.types;
   pairs = s.pairs;
+  root_spared = s.root_spared;
   low = s.low;
   high = s.high;
   graph = s.graph;
@@ -163,6 +169,7 @@ pub name_dropped : (state : State) (name : List ℕ) → IsSound state → is_ro
 name_dropped state name s other = record {
   types = s.types;
   pairs = s.pairs;
+  root_spared = s.root_spared;
   low = s.low;
   high = s.high;
   graph = s.graph;

@@ -6,6 +6,7 @@ pub mod IdLists
 pub mod Gathering
 pub mod Bindings
 pub mod Judging
+pub mod SoundPairs
 pub mod Frames
 pub mod Changing
 pub mod Setting

@@ -10,6 +10,7 @@ use Rattle.session_model.specs.Instances.{Instance, Instances, put_instance}
 use Rattle.session_model.specs.Loading.{load}
 use Rattle.session_model.specs.Answer.{State, first_instances, fresh, opened}
 use Rattle.session_model.specs.Sound.{AreTypes, IsHere, IsRightGraph, IsRightInstance, IsSound}
+use Rattle.session_model.proofs.SoundPairs.{none_are_sound}
 use Rattle.session_model.proofs.Filling.{IsFilled, filled}
 use Rattle.session_model.proofs.Naming.{fresh_right}
 
@@ -21,7 +22,8 @@ pub opened_sound : (types : List TypeDesc) (graph : Graph) (number next_id : ℕ
     → IsSound (opened types graph number next_id)
 opened_sound types graph number next_id are low high right = record {
   types = are;
-  pairs = refl;
+  pairs = none_are_sound;
+  root_spared = refl;
   low = low;
   high = high;
   graph = right;
@@ -41,6 +43,7 @@ begun_with : (state : State) (ks : Instances) → IsSound state → state.starte
 begun_with state ks s unbegun f root = record {
   types = s.types;
   pairs = s.pairs;
+  root_spared = s.root_spared;
   low = s.low;
   high = s.high;
   graph = s.graph;
@@ -79,7 +82,7 @@ begun_sound state ks s unbegun first = by (lists state.graph 1) refl first
   where
     by : (b : Bool) → lists state.graph 1 ≡ b → cond b (load state.types state.pairs state.graph [] 1) (Ok (put_instance 1 (fresh 1 root_desc) [])) ≡ Ok ks → IsSound (record state { instances = ks; started = true })
     by true there loads =
-        let f = filled state.types state.pairs state.next_id state.graph [] 1 ks s.types s.pairs s.graph refl (λ y i at. absurd cc) loads in
+        let f = filled state.types state.pairs state.next_id state.graph [] 1 ks s.types s.root_spared s.graph refl (λ y i at. absurd cc) loads in
         begun_with state ks s unbegun f (f.new there)
     by false absent made =
         let same : put_instance 1 (fresh 1 root_desc) [] ≡ ks = cc in

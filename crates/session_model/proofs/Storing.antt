@@ -228,6 +228,7 @@ store_sound : (state : State) → IsSound state → state.started ≡ true → (
 store_sound state s started x xs g most small = record {
   types = s.types;
   pairs = s.pairs;
+  root_spared = s.root_spared;
   low = s.low;
   high = s.high;
   graph = graph_stored state s x xs g most small;

@@ -20,7 +20,7 @@ use Rattle.graph_export.specs.Line.{line}
 
 pub command_sound : (most : ℕ) (state : State) (command : Command) → IsSound state → (needs_start command ≡ true → state.started ≡ true) → IsProperCommand command → IsSound (command_turn most state command).state
 command_sound most state (cmd.DeclareType desc) s started proper = type_line_sound state desc s proper
-command_sound most state (cmd.Refactor old new) s started proper = refactor_line_sound state old new s
+command_sound most state (cmd.Refactor old new) s started proper = refactor_line_sound state old new s proper
 command_sound most state (cmd.New name type_name) s started proper = new_line_sound state name type_name s (started refl)
 command_sound most state (cmd.SetMember name member rest) s started proper = set_line_sound state name member rest s (started refl) proper
 command_sound most state (cmd.AddTo name member target) s started proper = add_line_sound state name member target s (started refl)

@@ -14,6 +14,8 @@ use Rattle.entity_form.specs.Values.{kinds_of, AreOf, refs_of}
 use Rattle.entity_form.specs.declared.value.Value.{Value}
 use Rattle.entity_form.specs.declared.value.Value.TheVariants.{Int, Text, Bytes, Ref, Lazy, Refs}
 use Rattle.refactor_table.specs.declared.name.Pair.{Pair}
+use Rattle.refactor_table.specs.Names.{AreOfOneForm}
+use Rattle.refactor_table.specs.Pairs.{AreSound}
 use Rattle.session_model.specs.Commands as cmd
 use Rattle.session_model.specs.Commands.{Command}
 use Rattle.session_model.specs.Types.{is_root_type, repeats_member, type_in}
@@ -96,7 +98,8 @@ pub record IsRightInstance (types : List TypeDesc) (next_id : ℕ) (g : Graph) (
 
 pub record IsSound (state : State) : Type 0 where
   pub types : AreTypes state.types
-  pub pairs : list_all spares_root state.pairs ≡ true
+  pub pairs : AreSound state.pairs
+  pub root_spared : list_all spares_root state.pairs ≡ true
   pub low : first_id ≤ state.next_id
   pub high : state.next_id ≤ id_limit
   pub graph : IsRightGraph state.types state.next_id state.graph
@@ -112,9 +115,10 @@ pub record IsSound (state : State) : Type 0 where
 
 -- ---- commands
 
--- what a line of UTF-8 spells: a type that has a record, and as the rest of a `set` line a text of UTF-8
+-- what a line of UTF-8 spells: a type that has a record, two types or two members to refactor, and as the rest of a `set` line a text of UTF-8
 abbrev pub IsProperCommand : Command → Type 0
 IsProperCommand (cmd.DeclareType desc) = IsDesc desc
+IsProperCommand (cmd.Refactor old new) = AreOfOneForm old new
 IsProperCommand (cmd.SetMember name member rest) = IsUtf8 rest
 IsProperCommand _ = Unit {0}
 

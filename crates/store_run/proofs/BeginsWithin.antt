@@ -21,7 +21,7 @@ use Rattle.session.specs.Sessions.{SessionView as Session}
 use Rattle.plain_storage.specs.Images.{OtherFilesStay}
 use Rattle.plain_storage.specs.Keeping.{Keeps, Plain, held_in, storage_of}
 use Rattle.store_run.specs.Serving.{IsAt}
-use Rattle.store_run.specs.Within.{IsNoFarther, IsWithin, LineBegun, StandsFor, any_record}
+use Rattle.store_run.specs.Within.{IsNoLine, IsWithin, LineBegun, StandsFor, any_record}
 use Rattle.store_run.proofs.LineMakes.{line_makes_one}
 
 -- the turn of a line over what a storage holds
@@ -52,10 +52,10 @@ pub any_admitted : Admits any_record
 any_admitted types desc few right = refl
 
 -- behind a step the end of the line is nearer
-pub comes_nearer : (next : Given) (before now after : ℕ) → IsNoFarther (Some next) before now → ComesNearer next now after → after < before
-comes_nearer (given.Line text) before now after steady nearer = absurd steady
-comes_nearer (given.Reply reply) before now after steady nearer = omega arith
-comes_nearer given.Printed before now after steady nearer = omega arith
+pub comes_nearer : (next : Given) (before now : ℕ) → IsNoLine (Some next) → ComesNearer next before now → now < before
+comes_nearer (given.Line text) before now no_line nearer = absurd no_line
+comes_nearer (given.Reply reply) before now no_line nearer = nearer
+comes_nearer given.Printed before now no_line nearer = nearer
 
 -- ---- what may be given fits
 

@@ -9,6 +9,7 @@ pub mod LineMakes
 pub mod AskedWithin
 pub mod StepsWithin
 pub mod CutWithin
+pub mod EveryId
 pub mod BeginsWithin
 pub mod Others
 pub mod Endings

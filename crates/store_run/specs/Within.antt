@@ -101,9 +101,9 @@ MayCarry plain (step.Print line) = Unit {0}
 MayCarry plain step.Done = Unit {0}
 MayCarry plain (step.Broken id) = ⊥
 
--- no line is given, and the end is no farther
-abbrev pub IsNoFarther : Option Given → (before now : ℕ) → Type 0
-IsNoFarther (Some (given.Line text)) before now = ⊥
-IsNoFarther (Some (given.Reply reply)) before now = now ≤ before
-IsNoFarther (Some given.Printed) before now = now ≤ before
-IsNoFarther None before now = Unit {0}
+-- what is given within a line is no line
+abbrev pub IsNoLine : Option Given → Type 0
+IsNoLine (Some (given.Line text)) = ⊥
+IsNoLine (Some (given.Reply reply)) = Unit {0}
+IsNoLine (Some given.Printed) = Unit {0}
+IsNoLine None = Unit {0}

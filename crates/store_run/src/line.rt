@@ -1,17 +1,16 @@
 // One line is answered.
-ghost use Rattle.std.specs.Prelude.{◌≡◌, ◌<◌, ◌≤◌, ◌++◌, ℕ, Bool, List, IsTrue, IfOk, OnOk, IfErr, IsErrOf};
+ghost use Rattle.std.specs.Prelude.{◌≡◌, ◌≤◌, ◌++◌, Bool, IsTrue, IfOk, OnOk, IfErr, IsErrOf};
 ghost use Rattle.store_io.specs.Disk.{Rose};
 ghost use Rattle.session.specs.Dealing.{IsDueStep};
 ghost use Rattle.session_lines.specs.Limits.{most_bytes};
-ghost use Rattle.session_lines.specs.Steps.{steps_left};
 ghost use Rattle.session.specs.Sessions.{SessionView as AnySession};
-ghost use Rattle.session_model.specs.Answer.{State, Turn, turn};
+ghost use Rattle.session_model.specs.Answer.{State, turn};
 ghost use Rattle.plain_storage.specs.Images.{AreClean, OtherFilesStay};
-ghost use Rattle.plain_storage.specs.Keeping.{AreOpen, Keeps, held_in, storage_of};
+ghost use Rattle.plain_storage.specs.Keeping.{AreOpen, Keeps, held_in};
 ghost use Rattle.plain_storage.specs.Logs.{HasFullLog};
 ghost use Rattle.store_run.specs.Answer.{held_behind};
 ghost use Rattle.store_run.specs.Serving.{IsAt, IsTurnCut};
-ghost use Rattle.store_run.specs.Within.{IsNoFarther, IsWithin, LineBegun, MayCarry, StandsFor, any_record};
+ghost use Rattle.store_run.specs.Within.{IsNoLine, IsWithin, LineBegun, MayCarry, StandsFor, any_record};
 
 use crate::stop::Stop;
 use graph_model::Bytes;
@@ -32,8 +31,7 @@ fn carry_on<K: Sink, D: Disk>(
     ensures carried { (session : AnySession) (kept : Bool) (line : LineBegun) → (IsTrue kept → IsTrue D.tells)
         → IsWithin K.tells kept line (IsDueStep any_record step session) plain.old (D.reads disk.old) (K.written sink.old)
         → IfOk result (λ next. IsWithin K.tells kept line (StandsFor next session) plain.new (D.reads disk.new) (K.written sink.new)) }
-    ensures steady { (session : AnySession) (types : List (List ℕ)) (due : Turn) → IsDueStep any_record step session (storage_of plain.old types) due
-        → IfOk result (λ next. IsNoFarther next (steps_left session.waiting plain.old.graph) (steps_left session.waiting plain.new.graph)) }
+    ensures no_line { IfOk result IsNoLine }
     ensures logs { IsTrue D.tells → OnOk result (AreOpen plain.new (D.reads disk.new)) }
     ensures clean { IsTrue D.tells → AreClean (D.reads disk.old) (D.leaves disk.old) → OnOk result (AreClean (D.reads disk.new) (D.leaves disk.new)) }
     ensures others { IsTrue D.tells → OtherFilesStay (D.reads disk.old) (D.reads disk.new) (D.leaves disk.old) (D.leaves disk.new) }

@@ -17,4 +17,4 @@ pub returns-clause-whole : goal.returns-clause-whole
 returns-clause-whole c = c.outcome_of_step.ensures.broken ∙ none_broken_without c.args.memory.now.types _ _ c.in_ok-step.ensures.broken
 
 pub returns-clause-few : goal.returns-clause-few
-returns-clause-few c = λ storage. few_at_first c.has_root-rooted.result _ _ _ storage.graph c.start-export.ensures.begun (c.outcome_of_step.ensures.few storage.graph) (c.in_ok-step.ensures.few storage.graph refl)
+returns-clause-few c = λ g. few_at_first c.has_root-rooted.result _ _ _ g c.start-export.ensures.begun (c.outcome_of_step.ensures.few g) (c.in_ok-step.ensures.few g refl)

@@ -1,6 +1,6 @@
-use Rattle.std.proofs.Common.{◌≡◌, Some, ap, subst}
-use Rattle.std.specs.Prelude.{is_some}
+use Rattle.std.proofs.Common.{◌≡◌, Some, subst, sym}
 use Rattle.session_lines.specs.Exports.{IsDueNext, IsExportStep}
+use Rattle.session_lines.specs.Steady.{IsSmallId}
 use Rattle.session_lines.specs.declared.exporting.ExportStep.{ExportStep}
 use Rattle.session.proofs.ExportAsks.{end_answers, line_tells, looks_awaits}
 use Rattle.session.proofs.export_line.outcome_of_step.Goals as goal
@@ -8,7 +8,7 @@ use Rattle.session.proofs.export_line.outcome_of_step.Goals as goal
 pub returns-in-Look-clause-steady : goal.returns-in-Look-clause-steady
 returns-in-Look-clause-steady c = λ memory due.
     let asked : c.args.export.asked ≡ Some c.in-Look.id = subst (λ (s : ExportStep). IsDueNext c.args.export s) c.in-Look.is due in
-    (asked, ap is_some asked)
+    (asked, subst IsSmallId (sym asked) c.in-Look.ranges.id)
 
 pub returns-in-Look-clause-meets : goal.returns-in-Look-clause-meets
 returns-in-Look-clause-meets c = λ is_next_type text state memory storage due rest step.

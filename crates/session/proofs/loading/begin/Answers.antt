@@ -1,5 +1,6 @@
-use Rattle.std.proofs.Common.{◌∙◌}
+use Rattle.std.proofs.Common.{◌∙◌, refl, subst, sym}
 use Rattle.std.proofs.lemmas.Result.{IfOk-weaker}
+use Rattle.lazy_refs.specs.Advances.{IsUndone}
 use Rattle.session.proofs.LoadCounts.{if_within, steps_within, whole_first}
 use Rattle.session.proofs.LoadTurns.{takes_first}
 use Rattle.session.proofs.SteadySteps.{none_broken_first}
@@ -13,6 +14,7 @@ take_step-requires-clause-steady c = record {
   mappings = c.in_ok-step.ensures.mappings;
   typed = c.in_ok-step.ensures.typed;
   asks = c.in_ok-step.ensures.asks;
+  undone = c.in_ok-step.ensures.undone (subst IsUndone (sym c.start-loading.ensures.begun) refl);
   steady = c.requires.steady;
 }
 

@@ -17,7 +17,7 @@ returns-in-Ok-clause-meets c = λ is_next_type storage state at started.
     (follow_line_sound state c.args.name.now c.args.member.now c.args.new at.stands.sound started)
 
 pub returns-in-Ok-clause-few : goal.returns-in-Ok-clause-few
-returns-in-Ok-clause-few c = λ storage state at. c.bind_or_load.ensures.few storage.graph
+returns-in-Ok-clause-few c = c.bind_or_load.ensures.few
 
 pub returns-in-Err-clause-meets : goal.returns-in-Err-clause-meets
 returns-in-Err-clause-meets c = λ is_next_type storage state at started.
@@ -34,4 +34,4 @@ pub returns-in-Err-clause-whole : goal.returns-in-Err-clause-whole
 returns-in-Err-clause-whole c = IfOk-weaker c.outcome_of.result _ _ (λ o is. said_whole (Err c.in-Err.stop) o is) c.outcome_of.ensures
 
 pub returns-in-Err-clause-few : goal.returns-in-Err-clause-few
-returns-in-Err-clause-few c = λ storage state at. IfOk-weaker c.outcome_of.result _ _ (λ o is. let one = said_steps (Err c.in-Err.stop) o storage.graph is in omega arith) c.outcome_of.ensures
+returns-in-Err-clause-few c = λ g. IfOk-weaker c.outcome_of.result _ _ (λ o is. let one = said_steps (Err c.in-Err.stop) o g is in omega arith) c.outcome_of.ensures

@@ -1,7 +1,5 @@
-use Rattle.std.proofs.Common.{Option, Some, ap, subst, sym}
-use Rattle.std.specs.Prelude.{is_some}
+use Rattle.std.proofs.Common.{Some, subst, sym}
 use Rattle.std.proofs.lemmas.Result.{IfOk-weaker}
-use Rattle.graph_model.specs.declared.entity.Entity.{Entity}
 use Rattle.session_lines.specs.Broken.{IsBrokenAt, taken_for}
 use Rattle.session.proofs.LoadCounts.{if_below, steps_fall}
 use Rattle.session.proofs.LoadTurns.{entity_given, takes_next, walk_goes_on}
@@ -16,6 +14,7 @@ take_step-requires-clause-steady c = record {
   mappings = c.in_ok-step.ensures.mappings;
   typed = c.in_ok-step.ensures.typed;
   asks = c.in_ok-step.ensures.asks;
+  undone = c.in_ok-step.ensures.undone c.requires.loading.undone;
   steady = c.requires.purpose;
 }
 
@@ -31,6 +30,6 @@ returns-clause-meets c = λ is_next_type storage due t. c.take_step.ensures.meet
     c.in_ok-step.ensures.broken c.in_ok-step.ensures.mappings)
 
 pub returns-clause-nearer : goal.returns-clause-nearer
-returns-clause-nearer c = λ storage due t. if_below c.take_step.result storage.graph _ _
-    (steps_fall c.args.purpose c.args.loading c.next.new.self c.args.entity c.in_ok-step.step storage.graph c.in_ok-step.ensures.done t.loading_for.walk.fresh (ap (λ (o : Option Entity). is_some o) t.given))
-    (c.take_step.ensures.steps storage.graph)
+returns-clause-nearer c = λ g there. if_below c.take_step.result g _ _
+    (steps_fall c.args.purpose c.args.loading c.next.new.self c.args.entity c.in_ok-step.step g c.in_ok-step.ensures.done c.requires.loading.undone there)
+    (c.take_step.ensures.steps g)

@@ -6,3 +6,6 @@ returns-in_ok-outcome-in-ForNextLine-clause-steady c = c.behind.ensures.steady c
 
 pub returns-in_ok-outcome-in-ForNextLine-clause-fits : goal.returns-in_ok-outcome-in-ForNextLine-clause-fits
 returns-in_ok-outcome-in-ForNextLine-clause-fits c = c.behind.ensures.fits c.args.memory.now c.in_ok-outcome-in-ForNextLine.ensures.steady
+
+pub returns-in_ok-outcome-in-ForNextLine-clause-asks : goal.returns-in_ok-outcome-in-ForNextLine-clause-asks
+returns-in_ok-outcome-in-ForNextLine-clause-asks c = c.behind.ensures.asks c.args.memory.now c.in_ok-outcome-in-ForNextLine.ensures.steady

@@ -6,3 +6,6 @@ returns-clause-steady c = c.behind.ensures.steady c.take_reply.new.memory c.in_o
 
 pub returns-clause-fits : goal.returns-clause-fits
 returns-clause-fits c = c.behind.ensures.fits c.take_reply.new.memory c.in_ok-outcome-in-ForReply.ensures.steady
+
+pub returns-clause-asks : goal.returns-clause-asks
+returns-clause-asks c = c.behind.ensures.asks c.take_reply.new.memory c.in_ok-outcome-in-ForReply.ensures.steady

@@ -14,6 +14,6 @@ returns-in-Line-clause-gives c = λ is_next_type storage due admits may.
     c.line_given.ensures.gives is_next_type storage due admits begins.1
 
 pub returns-in-Line-clause-nearer : goal.returns-in-Line-clause-nearer
-returns-in-Line-clause-nearer c = λ storage due may.
-    subst (λ (g : Given). IfOk c.line_given.result (λ (taken : StepTaken). ComesNearer g (steps_left c.args.waiting storage.graph) (steps_left taken.waiting storage.graph))) (sym c.in-Line.is)
+returns-in-Line-clause-nearer c = λ graph listed.
+    subst (λ (g : Given). IfOk c.line_given.result (λ (taken : StepTaken). ComesNearer g (steps_left c.args.waiting graph) (steps_left taken.waiting graph))) (sym c.in-Line.is)
     (IfOk-weaker c.line_given.result _ _ (λ taken fits. tt) c.line_given.ensures.fits)

@@ -13,7 +13,5 @@ returns-in-Start-clause-meets c = λ is_next_type storage due admits goes_on.
     (c.carry_out.ensures.meets is_next_type storage start.state admits start.stands (λ needs. start.started))
 
 pub returns-in-Start-clause-nearer : goal.returns-in-Start-clause-nearer
-returns-in-Start-clause-nearer c = λ storage due goes_on.
-    let start : ComesAfterStart c.in-Start.command c.args.memory.now storage due = subst (λ (p : Purpose). ComesAfterLoading p c.args.memory.now storage due) c.in-Start.is goes_on in
-    subst (λ (p : Purpose). IfOk c.carry_out.result (λ outcome. outcome_steps outcome storage.graph < purpose_steps p storage.graph)) (sym c.in-Start.is)
-    (c.carry_out.ensures.few storage start.state start.stands)
+returns-in-Start-clause-nearer c = λ g.
+    subst (λ (p : Purpose). IfOk c.carry_out.result (λ outcome. outcome_steps outcome g < purpose_steps p g)) (sym c.in-Start.is) (c.carry_out.ensures.few g)

@@ -7,7 +7,3 @@ use Rattle.session.proofs.taking.take_loaded.Goals as goal
 pub returns-clause-meets : goal.returns-clause-meets
 returns-clause-meets c = λ is_next_type storage due replied.
     c.load_on.ensures.meets is_next_type storage due (subst (λ (r : Reply). Replied (phases.Looking c.args.loading c.args.purpose) r c.args.memory.now storage due) c.in-Found.is replied)
-
-pub returns-clause-nearer : goal.returns-clause-nearer
-returns-clause-nearer c = λ storage due replied.
-    c.load_on.ensures.nearer storage due (subst (λ (r : Reply). Replied (phases.Looking c.args.loading c.args.purpose) r c.args.memory.now storage due) c.in-Found.is replied)

@@ -13,12 +13,16 @@ loop-id-preserved c =
     λ g starts w. walked_before g starts c.args.seen.now.keys c.pop.new.self.items c.in-Some.id
     (sym (contains-has c.in-Some.id c.args.seen.now.keys) ∙ sym c.contains.ensures ∙ there) (rw c.in-Some.ensures.items at (c.loop-id.invariant g starts w))
 
-pub returns-then-not-contains : goal.returns-then-not-contains
-returns-then-not-contains c =
+pub returns-then-not-contains-clause-unseen : goal.returns-then-not-contains-clause-unseen
+returns-then-not-contains-clause-unseen c =
     let absent : c.contains.result ≡ false = grind (arith, common_steps) in
-    λ g starts w. (sym (contains-has c.in-Some.id c.args.seen.now.keys) ∙ sym c.contains.ensures ∙ absent, rw c.in-Some.ensures.items at (c.loop-id.invariant g starts w))
+    sym (contains-has c.in-Some.id c.args.seen.now.keys) ∙ sym c.contains.ensures ∙ absent
 
-pub returns : goal.returns
-returns c =
+pub returns-then-not-contains-clause-walks : goal.returns-then-not-contains-clause-walks
+returns-then-not-contains-clause-walks c =
+    λ g starts w. rw c.in-Some.ensures.items at (c.loop-id.invariant g starts w)
+
+pub returns-clause-walks : goal.returns-clause-walks
+returns-clause-walks c =
     let none : c.loop-id.waiting.items ≡ [] = grind (arith, common_steps) in
     λ g starts w. rw none at (c.loop-id.invariant g starts w)

@@ -9,4 +9,4 @@ returns-in-Err-clause-says c = λ storage state at. says_refusal c.in-Err.stop c
 
 pub returns-in_ok-line-in-Ok-clause-says : goal.returns-in_ok-line-in-Ok-clause-says
 returns-in_ok-line-in-Ok-clause-says c = λ storage state at.
-    pair_answers c.args.memory.now c.add.new.table _ storage state c.args.old c.args.new at c.in-Ok.ensures c.in_ok-add-in-Ok.ensures c.in_ok-line-in-Ok.ensures
+    pair_answers c.args.memory.now c.add.new.table _ storage state c.args.old c.args.new at c.requires c.in-Ok.ensures c.in_ok-add-in-Ok.ensures c.in_ok-line-in-Ok.ensures

@@ -3,7 +3,6 @@ use Rattle.std.proofs.Common.{◌≡◌, ◌++◌, List, ℕ, take, refl, subst}
 use Rattle.graph_model.specs.declared.ask.StorageFault.TheVariants as storage
 use Rattle.session.specs.Dealing.{IsDueStep}
 use Rattle.session.specs.declared.session.SessionStep.{SessionStep as Step}
-use Rattle.plain_storage.specs.Keeping.{storage_of, types_with}
 use Rattle.plain_storage.specs.Logs.{HasFullLog}
 use Rattle.store_run.specs.Faults.{storage_stop}
 use Rattle.store_run.specs.Serving.{IsTurnCut}
@@ -22,11 +21,6 @@ returns-in_ok-reply-in-Ask-clause-carried g c session kept line tells within =
     let asked = subst (λ (s : Step). IsWithin g.K.Sink.tells kept line (IsDueStep any_record s session) c.args.plain.now now written) c.in-Ask.is within in
     served_within g.K.Sink.tells kept line c.in-Ask.ask session c.args.plain.now c.serve.new.self now (g.D.Disk.reads c.serve.new.disk) written c.in_ok-reply-in-Ask.reply asked
     c.in_ok-reply-in-Ask.ensures.served (λ k. c.in_ok-reply-in-Ask.ensures.keeps (tells k))
-
-pub returns-in_ok-reply-in-Ask-clause-steady : goal.returns-in_ok-reply-in-Ask-clause-steady
-returns-in_ok-reply-in-Ask-clause-steady g c session types due gives =
-    let asks = subst (λ (s : Step). IsDueStep any_record s session (storage_of c.args.plain.now types) due) c.in-Ask.is gives in
-    asks.steady c.in_ok-reply-in-Ask.reply (storage_of c.serve.new.self (types_with c.in-Ask.ask types)) (c.in_ok-reply-in-Ask.ensures.served types)
 
 pub returns-in_ok-put-in-Print-clause-carried : goal.returns-in_ok-put-in-Print-clause-carried
 returns-in_ok-put-in-Print-clause-carried g c session kept line tells within =

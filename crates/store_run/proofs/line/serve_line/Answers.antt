@@ -8,11 +8,12 @@ use Rattle.session_lines.specs.Steps.{steps_left}
 use Rattle.session.specs.declared.session.Given.TheVariants as given
 use Rattle.plain_storage.specs.Keeping.{held_in, storage_of}
 use Rattle.store_run.specs.Serving.{IsTurnCut}
-use Rattle.store_run.specs.Within.{IsNoFarther, IsWithin, StandsFor, any_record}
+use Rattle.store_run.specs.Within.{IsNoLine, IsWithin, StandsFor, any_record}
 use Rattle.store_run.specs.declared.stop.Stop.{Stop}
 use Rattle.store_run.specs.declared.stop.Stop.TheVariants as stop
 use Rattle.store_run.proofs.AskedWithin.{step_may}
 use Rattle.store_run.proofs.BeginsWithin.{any_admitted, begun_at, comes_nearer, fits_within, line_begins, not_kept, others_stay}
+use Rattle.store_run.proofs.EveryId.{every_id, looked_up_listed}
 use Rattle.store_run.proofs.CutWithin.{within_cut}
 use Rattle.store_run.proofs.StepsWithin.{through, within_so}
 use Rattle.store_run.proofs.Stops.{if_stopped, memory_is_not_full}
@@ -60,6 +61,7 @@ steps-init g c =
           within_so g.K.Sink.tells kept (begun_at now c.args.plain.now c.args.line.now written) (StandsFor (Some (given.Line c.new-text.result)) c.args.session.now)
           (IsDueStep any_record c.in_ok-step.step c.next.new.self) c.args.plain.now reads written (λ storage due may. c.in_ok-step.ensures.gives any_record storage due any_admitted may)
           (line_begins g.K.Sink.tells kept now c.args.session.now c.args.plain.now c.args.line.now c.new-text.result reads written at keeps same);
+      listed = looked_up_listed c.in_ok-step.step c.next.new.self.waiting c.in_ok-step.ensures.asks;
       logs = c.requires.logs;
       clean = λ tells clean. clean;
       others = λ tells. record { reads = λ f a b. refl; leaves = λ f a b. refl };
@@ -110,18 +112,8 @@ returns-in_err-step-2-clause-stop g c answers tells clean now at keeps =
 
 pub steps-smaller : goal.steps-smaller
 steps-smaller g c =
-    let at = c.requires.at in
-    let line = begun_at at.0 c.args.plain.now c.args.line.now (g.K.Sink.written c.args.sink.now) in
-    let reads = g.D.Disk.reads c.carry_on.new.disk in
-    let written = g.K.Sink.written c.carry_on.new.sink in
-    let here = c.steps.invariant.within at.0 at.1 false (λ k. not_kept k) (λ k. not_kept k) in
-    let within = c.in_ok-given.ensures.carried c.steps.session false line (λ k. not_kept k) here in
-    let given_now = subst (λ (o : Option _). IsWithin g.K.Sink.tells false line (StandsFor o c.steps.session) c.carry_on.new.plain reads written) c.in-Some.is within in
-    let steady = c.in_ok-given.ensures.steady c.steps.session (records_from 16 here.types) here.due here.stands in
-    comes_nearer c.in-Some.given (steps_left c.steps.session.waiting c.steps.plain.graph) (steps_left c.steps.session.waiting c.carry_on.new.plain.graph)
-    (steps_left c.next-in-Some.new.self.waiting c.carry_on.new.plain.graph)
-    (subst (λ (o : Option _). IsNoFarther o (steps_left c.steps.session.waiting c.steps.plain.graph) (steps_left c.steps.session.waiting c.carry_on.new.plain.graph)) c.in-Some.is steady)
-    (c.in_ok-step-2.ensures.nearer (storage_of c.carry_on.new.plain (records_from 16 given_now.types)) given_now.due given_now.stands)
+    comes_nearer c.in-Some.given (steps_left c.steps.session.waiting every_id) (steps_left c.next-in-Some.new.self.waiting every_id)
+    (subst IsNoLine c.in-Some.is c.in_ok-given.ensures.no_line) (c.in_ok-step-2.ensures.nearer every_id c.steps.invariant.listed)
 
 pub steps-preserved : goal.steps-preserved
 steps-preserved g c = record {
@@ -133,6 +125,7 @@ steps-preserved g c = record {
       let given_now = subst (λ (o : Option _). IsWithin g.K.Sink.tells kept line (StandsFor o c.steps.session) c.carry_on.new.plain reads written) c.in-Some.is within in
       within_so g.K.Sink.tells kept line (StandsFor (Some c.in-Some.given) c.steps.session) (IsDueStep any_record c.in_ok-step-2.step c.next-in-Some.new.self) c.carry_on.new.plain reads written
       (λ storage due may. c.in_ok-step-2.ensures.gives any_record storage due any_admitted may) given_now;
+  listed = looked_up_listed c.in_ok-step-2.step c.next-in-Some.new.self.waiting c.in_ok-step-2.ensures.asks;
   logs = c.in_ok-given.ensures.logs;
   clean = λ tells clean. c.in_ok-given.ensures.clean tells (c.steps.invariant.clean tells clean);
   others = λ tells. others_stay (g.D.Disk.reads c.args.disk.now) (g.D.Disk.reads c.steps.disk) (g.D.Disk.reads c.carry_on.new.disk) (g.D.Disk.leaves c.args.disk.now) (g.D.Disk.leaves c.steps.disk)

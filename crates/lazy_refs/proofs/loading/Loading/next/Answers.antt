@@ -2,7 +2,7 @@ use Rattle.std.proofs.Common.{subst}
 use Rattle.std.specs.Prelude.{Option}
 use Rattle.graph_model.specs.declared.entity.Entity.{Entity}
 use Rattle.lazy_refs.specs.Steps.{IsGiven}
-use Rattle.lazy_refs.proofs.Advancing.{asked_next, done_next}
+use Rattle.lazy_refs.proofs.Advancing.{asked_next, done_next, undone_next}
 use Rattle.lazy_refs.proofs.Ending.{stepped}
 use Rattle.lazy_refs.proofs.Shapes.{broken_at_asked}
 use Rattle.lazy_refs.proofs.Turning.{if_ok}
@@ -29,3 +29,7 @@ returns-in-Some-clause-typed c = if_ok _ _ c.take.result
 pub returns-in-Some-clause-broken : goal.returns-in-Some-clause-broken
 returns-in-Some-clause-broken c = rw c.in-Some.is
     (if_ok _ _ c.take.result (λ step t. broken_at_asked c.args.types.now c.args.table.now c.args.registry.now.instances c.in-Some.entity c.args.self.now c.take.new.self step t) c.take.ensures.step)
+
+pub returns-in-Some-clause-undone : goal.returns-in-Some-clause-undone
+returns-in-Some-clause-undone c = λ undone.
+    if_ok _ _ c.take.result (λ step t. undone_next c.args.types.now c.args.table.now c.args.registry.now.instances c.in-Some.entity c.args.self.now c.take.new.self step t) c.take.ensures.step

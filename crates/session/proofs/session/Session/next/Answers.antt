@@ -1,7 +1,8 @@
 -- What is taken is taken of the fields; the session that contracts see has the same.
 use Rattle.std.proofs.Common.{◌≡◌, ◌<◌, ◌∙◌, ap, subst, sym}
+use Rattle.session_lines.specs.Broken.{looked_up}
 use Rattle.session_lines.specs.Steady.{IsSteadyWaiting}
-use Rattle.session_lines.specs.Steps.{steps_left}
+use Rattle.session_lines.specs.Steps.{IsListed, steps_left}
 use Rattle.session_lines.specs.declared.outcome.Waiting.{Waiting}
 use Rattle.session.specs.BrokenSteps.{IsBrokenWhere}
 use Rattle.session.specs.Dealing.{ComesNearer, MayGive}
@@ -32,7 +33,7 @@ returns-clause-gives c = λ is_next_type storage due admits may.
     c.in_ok-taken.ensures.gives is_next_type storage due admits (subst (λ (s : SessionView). MayGive c.args.given s storage due) (sym was) may)
 
 pub returns-clause-nearer : goal.returns-clause-nearer
-returns-clause-nearer c = λ storage due may.
+returns-clause-nearer c = λ g listed.
     let was : session_of c.self.inside.memory c.replace-waiting.result ≡ c.args.self.now = ap (λ (w : Waiting). session_of c.self.inside.memory w) c.replace-waiting.ensures.value ∙ c.self.view_is in
-    subst (λ (s : SessionView). ComesNearer c.args.given (steps_left s.waiting storage.graph) (steps_left c.in_ok-taken.taken.waiting storage.graph)) was
-    (c.in_ok-taken.ensures.nearer storage due (subst (λ (s : SessionView). MayGive c.args.given s storage due) (sym was) may))
+    subst (λ (s : SessionView). ComesNearer c.args.given (steps_left s.waiting g) (steps_left c.in_ok-taken.taken.waiting g)) was
+    (c.in_ok-taken.ensures.nearer g (subst (λ (s : SessionView). IsListed (looked_up s.waiting) g) (sym was) listed))

@@ -7,7 +7,7 @@ use Rattle.session_lines.proofs.exporting.Export.go_on.Goals as goal
 
 pub returns-in-Some-clause-step : goal.returns-in-Some-clause-step
 returns-in-Some-clause-step c = λ state text none e.
-    let there = asks_on state text c.next_waiting.new.waiting.items _ c.in-Some.id c.in-Walking.is (ap (λ (p : Exported). p.asked) c.self.view_is ∙ none) (subst (λ (p : Exported). IsExporting state text p) (sym c.self.view_is) e) c.in-Some.ensures in
+    let there = asks_on state text c.next_waiting.new.waiting.items _ c.in-Some.id c.in-Walking.is (ap (λ (p : Exported). p.asked) c.self.view_is ∙ none) (subst (λ (p : Exported). IsExporting state text p) (sym c.self.view_is) e) c.in-Some.ensures.unseen c.in-Some.ensures.walks in
     (refl, due_is_exported state text _ c.in-Some.id there refl, there)
 
 pub returns-in-None-clause-few : goal.returns-in-None-clause-few
