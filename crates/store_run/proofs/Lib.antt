@@ -19,3 +19,4 @@ pub mod PartAnswers
 pub mod Opened
 pub mod Promise
 pub mod KeptStores
+pub mod ScriptFronts

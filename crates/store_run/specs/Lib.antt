@@ -5,6 +5,7 @@ pub mod Full
 pub mod Lines
 pub mod Progress
 pub mod Run
+pub mod Scripts
 pub mod Serving
 pub mod Statuses
 pub mod Top
