@@ -1,5 +1,5 @@
 -- Fronts of a script that is made up.
-use Rattle.std.proofs.Common.{◌≡◌, ◌⊎◌, inr, ℕ, List, [], ◌∷◌, ◌++◌, Some, None, take, drop, refl, sym, ap, ◌∙◌, take-append-drop, append_assoc}
+use Rattle.std.proofs.Common.{◌≡◌, inr, ℕ, List, [], ◌∷◌, ◌++◌, Some, take, drop, sym, ap, ◌∙◌, take-append-drop, append_assoc}
 use Rattle.workload.specs.Lines.{IsNext}
 use Rattle.store_run.specs.Run.{EndsLine, IsFrontOf, Puts}
 use Rattle.store_run.specs.Scripts.{text_of}
