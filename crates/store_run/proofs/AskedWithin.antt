@@ -138,17 +138,22 @@ same_held : (plain new : Plain) (types : List TypeDesc) → new.graph ≡ plain.
     → held_in new types ≡ held_in plain types
 same_held plain new types graph number next_id = cc
 
+-- of what is due only records and stores count
+same_stage : (line : LineBegun) (due left : Turn) (put : List ℕ) (held : PlainHeld) → left.records ≡ due.records → left.stores ≡ due.stores → Stage line due put held → Stage line left put held
+same_stage line due left put held records stores (inl before) = inl (record { put_none = before.put_none; records = records ∙ before.records; stores = stores ∙ before.stores; held_is = before.held_is })
+same_stage line due left put held records stores (inr behind) = inr (record { records = records ∙ behind.records; stores = stores ∙ behind.stores; held_is = behind.held_is })
+
 -- an ask that keeps nothing
-unwritten : (line : LineBegun) (plain : Plain) (types : List TypeDesc) (due : Turn) (put : List ℕ) (ask : Ask) → types_with ask (records_from 16 types) ≡ records_from 16 types → without ask due ≡ due
-    → IsNext ask (held_in plain types) (held_in plain types) → Stage line due put (held_in plain types)
+unwritten : (line : LineBegun) (plain : Plain) (types : List TypeDesc) (due : Turn) (put : List ℕ) (ask : Ask) → types_with ask (records_from 16 types) ≡ records_from 16 types
+    → (without ask due).records ≡ due.records → (without ask due).stores ≡ due.stores → IsNext ask (held_in plain types) (held_in plain types) → Stage line due put (held_in plain types)
     → ((new : Plain) (reply : Reply) → Served (storage_of plain (records_from 16 types)) ask reply (storage_of new (types_with ask (records_from 16 types))) → held_in new types ≡ held_in plain types)
     → Follows line ask plain types due put
-unwritten line plain types due put ask records all is stage served = record {
+unwritten line plain types due put ask records same_records same_stores is stage served = record {
   next_types = types;
   next = held_in plain types;
   records = sym records;
   is_next = is;
-  stage = subst (λ (d : Turn). Stage line d put (held_in plain types)) (sym all) stage;
+  stage = same_stage line due (without ask due) put (held_in plain types) same_records same_stores stage;
   served = served;
 }
 
@@ -223,12 +228,12 @@ follows (asks.Store op) session line plain types due put gives stage makes =
 follows (asks.KeepType text) session line plain types due put gives stage makes =
     type_follows line text plain types due put (type_due line text (rest_of due.records) due put (held_in plain types) stage gives.due_next makes)
 follows (asks.Look x) session line plain types due put gives stage makes =
-    unwritten line plain types due put (asks.Look x) refl refl refl stage (λ new reply s. same_held plain new types s.same.others.graph s.same.others.number s.same.others.next_id)
+    unwritten line plain types due put (asks.Look x) refl refl refl refl stage (λ new reply s. same_held plain new types s.same.others.graph s.same.others.number s.same.others.next_id)
 follows (asks.Hold xs) session line plain types due put gives stage makes =
-    unwritten line plain types due put (asks.Hold xs) refl refl refl stage (λ new reply s. same_held plain new types s.others.graph s.others.number s.others.next_id)
+    unwritten line plain types due put (asks.Hold xs) refl refl refl refl stage (λ new reply s. same_held plain new types s.others.graph s.others.number s.others.next_id)
 follows (asks.Release xs) session line plain types due put gives stage makes =
-    unwritten line plain types due put (asks.Release xs) refl refl refl stage (λ new reply s. same_held plain new types s.others.graph s.others.number s.others.next_id)
+    unwritten line plain types due put (asks.Release xs) refl refl refl refl stage (λ new reply s. same_held plain new types s.others.graph s.others.number s.others.next_id)
 follows asks.Collect session line plain types due put gives stage makes =
-    unwritten line plain types due put asks.Collect refl refl refl stage (λ new reply s. same_held plain new types s.same.others.graph s.same.others.number s.same.others.next_id)
+    unwritten line plain types due put asks.Collect refl refl refl refl stage (λ new reply s. same_held plain new types s.same.others.graph s.same.others.number s.same.others.next_id)
 follows asks.Tidy session line plain types due put gives stage makes =
-    unwritten line plain types due put asks.Tidy refl refl refl stage (λ new reply s. same_held plain new types s.same.others.graph s.same.others.number s.same.others.next_id)
+    unwritten line plain types due put asks.Tidy refl refl refl refl stage (λ new reply s. same_held plain new types s.same.others.graph s.same.others.number s.same.others.next_id)
