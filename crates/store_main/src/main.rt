@@ -1,4 +1,4 @@
-//! The program: a script from standard input, its answers on standard output, and a folder of the host.
+//! The program: a script from standard input, its answers on standard output, and a folder of the host; or a script that is made up.
 #![tactic(auto)]
 
 mod help;
@@ -14,7 +14,12 @@ use std::path::Path;
 use std::process::ExitCode;
 use std::{env, io};
 use store_host::{FirstRefusal, HostFault, StdSink, StdSource};
-use store_run::{Status, run_alone};
+use store_run::{Status, generate, run_alone};
+use store_words::Plan;
+use store_words::words::plan;
+
+/// The numbers that a script is made up from are below this.
+const NUMBER_LIMIT: u32 = 1 << 31;
 
 /// The number that the process ends with.
 fn number_of(status: Status) -> u8 {
@@ -67,6 +72,23 @@ fn run(rt: HostRuntime, program: &str, words: &Vec<String>) -> Status {
     }
 }
 
+/// Prints the script of so many lines that is made up from a number.
+fn print_script(rt: HostRuntime, program: &str, lines: u64, number: u32) -> Status {
+    if number >= NUMBER_LIMIT {
+        return Status::Words;
+    }
+    let first = FirstRefusal::new();
+    let mut sink = StdSink::new(rt.alloc(), rt.stdout(), &first);
+    let status = generate(rt.alloc(), lines, number, &mut sink);
+    let speaker = Speaker {
+        rt,
+        program: short_name(program),
+        dir: "generate",
+    };
+    speaker.generated(status, &sink);
+    status
+}
+
 /// The status of a call that shows what was asked for.
 fn shown(rt: HostRuntime, program: &str, written: io::Result<()>) -> Status {
     match written {
@@ -86,7 +108,10 @@ fn serve(rt: HostRuntime, program: &str, words: &Vec<String>) -> Status {
             _ => {}
         }
     }
-    run(rt, program, words)
+    match plan(rt.alloc(), words) {
+        Ok(Plan::Generate { lines, number }) => print_script(rt, program, lines, number),
+        _ => run(rt, program, words),
+    }
 }
 
 /// The program's name as it was called, and the words after it.

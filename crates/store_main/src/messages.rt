@@ -53,6 +53,15 @@ impl<'a> Speaker<'a> {
         };
     }
 
+    /// Says why a script was not printed to its end.
+    pub(crate) fn generated<W: Write + Drop>(&self, status: Status, sink: &StdSink<'_, W>) {
+        match status {
+            Status::WriteFault => self.stream_failed("standard output", sink.failure()),
+            Status::NoMemory => self.say(self.dir, &"there is not enough memory"),
+            _ => {}
+        }
+    }
+
     /// Says which lines were refused, and why the run ended where it did not end well.
     pub(crate) fn ended<R: Read + Drop, W: Write + Drop>(
         &self,
