@@ -1,0 +1,6 @@
+pub mod ClapCommands
+pub mod ClapWalks
+pub mod Decimals
+pub mod LentWords
+pub mod Spelling
+pub mod Taken

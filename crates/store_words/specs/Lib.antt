@@ -1,0 +1,5 @@
+pub mod ClapCommands
+pub mod Grammar
+pub mod Numbers
+pub mod Reading
+pub mod Verbs
