@@ -3,6 +3,7 @@
 
 mod commands;
 mod export_line;
+mod ids;
 mod loading;
 mod session;
 mod storing;

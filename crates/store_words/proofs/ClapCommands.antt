@@ -1,14 +1,18 @@
 -- What `clap` makes of a command's name and plain words behind it.
-use Rattle.std.proofs.Common.{◌≡◌, ℕ, ◌&&◌, Bool, true, false, List, [], ◌∷◌, ◌++◌, length, Option, Some, None, nat_le, refl, sym, ap, ap₂, ◌∙◌, codes, true≢false, is_some, option_map, option_and_then, append_assoc, append-nil}
+use Rattle.std.proofs.Common.{◌≡◌, ℕ, ◌&&◌, Bool, true, false, List, [], ◌∷◌, ◌++◌, length, Option, Some, None, nat_le, map, refl, sym, ap, ap₂, Bor, ◌∙◌, codes, true≢false, is_some, option_map, option_and_then, append_assoc, append-nil}
 use Rattle.std.specs.List.{list_all, fold, find}
 use Rattle.std.proofs.lemmas.Bool.{and_parts}
 use Rattle.std.specs.Option.{option_map_or}
-use Rattle.clap.specs.Walk.{Names, Row, Rule, Text, Walk, all_of, answers_to, finished, nothing_held, takes_several, walk, walk_from, walked}
+use Rattle.clap.specs.Walk.{Names, Row, Rule, Text, Walk, all_of, answers_to, finished, nothing_held, rows_of, takes_several, walk, walk_from, walked}
 use Rattle.clap.specs.Simple.{App, Shape, built, entered, is_simple, label_of, names_of, rows_at, subcommand_of}
 use Rattle.clap.specs.Takes.{built_takes, default_passes, entered_passes, is_valid, level_passes, settle_passes, takes, turn_passes, walk_passes}
+use Rattle.clap.specs.Matches.{matched_of, raw_values}
+use Rattle.clap.specs.declared.parser.matches.Found.{Found}
 use Rattle.clap.proofs.OnLiterals.{clap_on_literals}
+use Rattle.clap.proofs.WalkLemmas.{raw_values-rows}
 use Rattle.store_words.specs.ClapCommands.{count_of, fits_count, kept_of, program_app, some_words}
 use Rattle.store_words.specs.Grammar.{is_plain}
+use Rattle.store_words.specs.Reading.{words_of}
 use Rattle.store_words.specs.Verbs.{name_of}
 use Rattle.store_words.specs.declared.verb.Verb.{Verb}
 use Rattle.store_words.specs.declared.verb.Verb.TheVariants as verb
@@ -126,3 +130,14 @@ takes_words v [] plain fits = absurd (never_empty v fits)
     never_empty verb.Generate e = true≢false (sym e)
     never_empty verb.Trial e = true≢false (sym e)
 takes_words v (word ∷ more) plain fits = let parts = and_parts _ _ fits in command_takes v word more plain parts.0 parts.1
+
+-- the words that a parse kept, read from what it found
+pub kept_is : (o : Option (Text × List Row)) (f : Found) (r : Option (Bor (List (Bor Text)))) → Some (rows_of f) ≡ option_map (λ p. p.1) o
+    → option_map (λ s. map (λ v. v.now) s.now) r ≡ option_map raw_values (matched_of f (codes "words")) → option_map (λ s. words_of s.now) r ≡ kept_of o
+kept_is None f r has read = absurd cc
+kept_is (Some p) f r has read =
+    let rows : rows_of f ≡ p.1 = cc in
+    read ∙ raw_values-rows f (codes "words") ∙ ap (all_of (codes "words")) rows
+
+pub program_simple : is_simple program_app ≡ true
+program_simple = refl

@@ -1,5 +1,5 @@
 -- From the words behind a command's name to all words.
-use Rattle.std.proofs.Common.{◌≡◌, ℕ, ◌&&◌, Bool, true, false, List, [], ◌∷◌, Option, Some, None, Result, Ok, Err, IfOk, MatchResult, refl, sym, ap, subst, ◌∙◌, true≢false, some≢none, cond, codes, inl, inr}
+use Rattle.std.proofs.Common.{◌≡◌, ◌⊎◌, ℕ, ◌&&◌, Bool, true, false, List, [], ◌∷◌, Option, Some, None, Result, Ok, Err, IfOk, MatchResult, refl, sym, ap, subst, ◌∙◌, true≢false, cond, codes, inl, inr}
 use Rattle.std.specs.List.{list_all}
 use Rattle.std.specs.Str.{bytes_eq}
 use Rattle.std.proofs.lemmas.Slice.Eq.{bytes_eq-Decides}
@@ -45,7 +45,7 @@ named_is word v e = elim (pick (bytes_eq word (codes "run")) verb.Run v _ e) [
           | inl h ↦ is_name word verb.Generate v h.0 h.1
           | inr e6 ↦ elim (pick (bytes_eq word (codes "trial")) verb.Trial v _ e6) [
             | inl h ↦ is_name word verb.Trial v h.0 h.1
-            | inr none ↦ absurd (some≢none v (sym none))
+            | inr none ↦ absurd cc
           ]
         ]
       ]
@@ -81,7 +81,7 @@ nothing_said v [] command none takes = go v (counted v [] command takes)
     go verb.Export e = true≢false (sym e)
     go verb.Generate e = true≢false (sym e)
     go verb.Trial e = true≢false (sym e)
-nothing_said v (word ∷ more) command none takes = absurd (some≢none (word ∷ more) none)
+nothing_said v (word ∷ more) command none takes = absurd cc
 
 pub nothing_taken : (v : Verb) (rest : List Text) (fault : WordsFault) → some_words rest ≡ None → IsTaken v rest (Err fault)
 nothing_taken v rest fault none = record { spelled = tt; only = λ command takes. absurd (nothing_said v rest command none takes) }
@@ -91,7 +91,7 @@ pub error_taken : (v : Verb) (rest : List Text) (fault : WordsFault) → (fits_c
 error_taken v rest fault fails = record { spelled = tt; only = λ command takes. fails (counted v rest command takes) }
 
 words_kept : (kept rest : List Text) → Some kept ≡ some_words rest → kept ≡ rest
-words_kept kept [] is = absurd (some≢none kept is)
+words_kept kept [] is = absurd cc
 words_kept kept (word ∷ more) is = cc
 
 pub kept_taken : (v : Verb) (kept rest : List Text) (r : Result Plan WordsFault) → Some kept ≡ some_words rest → IsTaken v kept r → IsTaken v rest r
@@ -117,7 +117,8 @@ unnamed_refused words first rest fault is none =
     refused words fault (λ command spell.
         let same : first ∷ rest ≡ name_of spell.verb ∷ spell.rest = sym is ∙ spell.named in
         let name : first ≡ name_of spell.verb = cc in
-        some≢none spell.verb (sym (named_back spell.verb) ∙ ap verb_named (sym name) ∙ none))
+        let some : Some spell.verb ≡ None = sym (named_back spell.verb) ∙ ap verb_named (sym name) ∙ none in
+        absurd cc)
 
 same_said : (words rest : List Text) (v : Verb) (command : Plan) → words ≡ name_of v ∷ rest → Spell words command → Takes v rest command
 same_said words rest v command is spell =

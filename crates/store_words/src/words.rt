@@ -31,9 +31,12 @@ fn is_plain(word: &[u8]) -> bool
 fn are_plain(words: &[String]) -> bool
     ensures { result ≡ list_all is_plain (texts words.now) }
 {
-    words
-        .iter()
-        .all(|word| is_plain(word.as_bytes()))
+    for word in words {
+        if !is_plain(word.as_bytes()) {
+            return false;
+        }
+    }
+    true
 }
 
 fn fault_of(error: &Error) -> WordsFault
