@@ -142,10 +142,10 @@ impl Export {
 
     /// Asks for the entity of the least id that is not told yet, or ends.
     fn tell_next(&mut self) -> Result<ExportStep, NoMemory>
-        ensures step { (state : State) (text : List ℕ) → self.old.stage ≡ Stage.Telling → self.old.asked ≡ None → IsExporting state text self.old
-            → IfOk result (IsExportStep state text self.new) }
+        requires { self.old.stage ≡ Stage.Telling }
+        ensures step { (state : State) (text : List ℕ) → self.old.asked ≡ None → IsExporting state text self.old → IfOk result (IsExportStep state text self.new) }
         ensures on { IfOk result (IsUnbrokenStep self.new) }
-        ensures nearer { (g : Graph) → self.old.stage ≡ Stage.Telling → self.old.asked ≡ None → IfOk result (λ step. steps_behind step self.new g < export_steps self.old g) }
+        ensures nearer { (g : Graph) → self.old.asked ≡ None → IfOk result (λ step. steps_behind step self.new g < export_steps self.old g) }
     {
         match self.left.pop_first() {
             Some(id) => {
@@ -206,7 +206,7 @@ impl Export {
         ensures step { (state : State) (text : List ℕ) → self.old.stage ≡ Stage.Walking → self.old.asked ≡ Some id → IsExporting state text self.old
             → entity_of state.graph id ≡ Some entity.now → IfOk result (IsExportStep state text self.new) }
         ensures on { IfOk result (IsUnbrokenStep self.new) }
-        ensures nearer { (g : Graph) → self.old.stage ≡ Stage.Walking → self.old.asked ≡ Some id → lists g id ≡ true → IfOk result (λ step. steps_behind step self.new g < export_steps self.old g) }
+        ensures nearer { (g : Graph) → self.old.stage ≡ Stage.Walking → has id self.old.left ≡ false → lists g id ≡ true → IfOk result (λ step. steps_behind step self.new g < export_steps self.old g) }
     {
         match self.look(id, entity) {
             Ok(()) => self.go_on(),

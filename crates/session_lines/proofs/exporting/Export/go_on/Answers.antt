@@ -23,4 +23,7 @@ returns-in-None-clause-few c = λ g none.
 
 pub returns-in-Telling-clause-few : goal.returns-in-Telling-clause-few
 returns-in-Telling-clause-few c = λ g none.
-    IfOk-weaker c.tell_next.result _ _ (λ step h. at_most_below _ _ h) (c.tell_next.ensures.nearer g (sym (ap (λ (p : Exported). p.stage) c.self.view_is) ∙ c.in-Telling.is) none)
+    IfOk-weaker c.tell_next.result _ _ (λ step h. at_most_below _ _ h) (c.tell_next.ensures.nearer g none)
+
+pub tell_next-requires : goal.tell_next-requires
+tell_next-requires c = sym (ap (λ (p : Exported). p.stage) c.self.view_is) ∙ c.in-Telling.is

@@ -1,8 +1,8 @@
-use Rattle.std.proofs.Common.{ap, arith, subst}
+use Rattle.std.proofs.Common.{ap, arith}
 use Rattle.std.proofs.lemmas.Result.{IfOk-weaker}
-use Rattle.session_lines.specs.Exports.{Exported, IsUnseen}
+use Rattle.session_lines.specs.Exports.{Exported}
 use Rattle.session_lines.proofs.ExportCounts.{looked_steps}
-use Rattle.session_lines.proofs.ExportSteps.{looks, unseen_is_fresh}
+use Rattle.session_lines.proofs.ExportSteps.{looks}
 use Rattle.session_lines.proofs.exporting.Export.walk.Goals as goal
 
 pub returns-in-Ok-clause-step : goal.returns-in-Ok-clause-step
@@ -11,8 +11,7 @@ returns-in-Ok-clause-step c = λ state text is asked e at.
     c.go_on.ensures.step state text there.0 there.1
 
 pub returns-in-Ok-clause-nearer : goal.returns-in-Ok-clause-nearer
-returns-in-Ok-clause-nearer c = λ g is asked there.
-    let fresh = unseen_is_fresh c.args.self.now c.args.id (subst (λ (p : Exported). IsUnseen p.stage p.asked p.left) c.self.view_is c.self.invariant) is asked in
+returns-in-Ok-clause-nearer c = λ g is fresh there.
     let becomes = c.in-Ok.ensures fresh in
     let less = looked_steps c.args.self.now c.look.new.self c.args.id c.args.entity.now g is fresh there becomes in
     IfOk-weaker c.go_on.result _ _ (λ step h. omega arith) (c.go_on.ensures.few g (ap (λ (p : Exported). p.asked) becomes))
