@@ -13,7 +13,6 @@ ghost use Rattle.session_lines.specs.Steady.{IsSmallId, IsSteadyOutcome};
 ghost use Rattle.session_lines.specs.declared.memory.Memory.{Memory as AnyMemory};
 ghost use Rattle.session_lines.specs.Steps.{IsListed, export_steps, outcome_steps};
 
-use crate::ids::is_number;
 use graph_model::{Ask, Entity, NoMemory, ROOT_ID};
 use session_lines::{Export, ExportStep, Memory, Outcome, Phase};
 
@@ -36,10 +35,7 @@ fn outcome_of_step(step: ExportStep, export: Export) -> Outcome
     ensures few { (g : Graph) → outcome_steps result g ≡ steps_behind step export g }
 {
     match step {
-        ExportStep::Look(id) => {
-            is_number(id);
-            Outcome::Ask(Ask::Look(id), Phase::Exporting(export))
-        }
+        ExportStep::Look(id) => Outcome::Ask(Ask::Look(id), Phase::Exporting(export)),
         ExportStep::Line(bytes) => Outcome::Line(bytes, export),
         ExportStep::End(bytes) => Outcome::Answer(bytes),
         ExportStep::Broken { id } => Outcome::Broken(id),

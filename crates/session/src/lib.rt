@@ -3,7 +3,6 @@
 
 mod commands;
 mod export_line;
-mod ids;
 mod loading;
 mod session;
 mod storing;

@@ -23,7 +23,6 @@ ghost use Rattle.session_lines.specs.Steady.{IsSteadyLoading, IsSteadyOutcome, I
 ghost use Rattle.session_lines.specs.Steps.{outcome_steps, phase_steps, purpose_steps};
 ghost use Rattle.session_lines.specs.declared.outcome.Phase.{Phase as AnyPhase};
 
-use crate::ids::is_number;
 use entity_form::{Object, default_object};
 use graph_model::{Ask, Entity, Ids, NoMemory};
 use lazy_refs::{LoadStep, Loading};
@@ -114,10 +113,7 @@ fn take_step(
     ensures steps { (g : Graph) → IfOk result (λ outcome. outcome_steps outcome g ≡ step_steps step loading purpose g) }
 {
     match step {
-        LoadStep::Want(id) => {
-            is_number(id);
-            Ok(Outcome::Ask(Ask::Look(id), Phase::Looking(loading, purpose)))
-        }
+        LoadStep::Want(id) => Ok(Outcome::Ask(Ask::Look(id), Phase::Looking(loading, purpose))),
         step => end(memory, step, purpose),
     }
 }

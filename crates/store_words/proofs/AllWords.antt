@@ -1,9 +1,9 @@
 -- All words of a line, one by one.
-use Rattle.std.proofs.Common.{◌≡◌, ℕ, zero, suc, ◌+◌, ◌≤◌, ◌<◌, ◌&&◌, Bool, true, false, List, [], ◌∷◌, length, get_or, take, drop, String, Global, refl, sym, ap, ap₂, ◌∙◌, arith}
+use Rattle.std.proofs.Common.{◌≡◌, ℕ, zero, suc, ◌≤◌, ◌<◌, ◌&&◌, Bool, true, false, List, [], ◌∷◌, length, get_or, take, drop, String, Global, refl, ap, ap₂, arith}
 use Rattle.std.specs.List.{list_all}
 use Rattle.std.specs.String.{string_bytes}
 use Rattle.std.proofs.lemmas.Bool.{and_parts}
-use Rattle.store_words.specs.Grammar.{Text, is_plain, texts}
+use Rattle.store_words.specs.Grammar.{is_plain, texts}
 
 -- the words so far and one more are plain
 pub plain_more : (words : List (String Global)) (k : ℕ) (d : String Global) → k < length words → list_all is_plain (texts (take k words)) ≡ true

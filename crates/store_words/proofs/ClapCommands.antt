@@ -1,11 +1,11 @@
 -- What `clap` makes of a command's name and plain words behind it.
-use Rattle.std.proofs.Common.{◌≡◌, ℕ, ◌&&◌, Bool, true, false, List, [], ◌∷◌, ◌++◌, length, Option, Some, None, nat_le, map, refl, sym, ap, ap₂, Bor, ◌∙◌, codes, true≢false, is_some, option_map, option_and_then, append_assoc, append-nil}
+use Rattle.std.proofs.Common.{◌≡◌, ◌&&◌, Bool, true, false, List, [], ◌∷◌, ◌++◌, length, Option, Some, None, nat_le, map, refl, sym, ap, ap₂, Bor, ◌∙◌, codes, true≢false, is_some, option_map, append_assoc, append-nil}
 use Rattle.std.specs.List.{list_all, fold, find}
 use Rattle.std.proofs.lemmas.Bool.{and_parts}
 use Rattle.std.specs.Option.{option_map_or}
 use Rattle.clap.specs.Walk.{Names, Row, Rule, Text, Walk, all_of, answers_to, finished, nothing_held, rows_of, takes_several, walk, walk_from, walked}
 use Rattle.clap.specs.Simple.{App, Shape, built, entered, is_simple, label_of, names_of, rows_at, subcommand_of}
-use Rattle.clap.specs.Takes.{built_takes, default_passes, entered_passes, is_valid, level_passes, settle_passes, takes, turn_passes, walk_passes}
+use Rattle.clap.specs.Takes.{default_passes, entered_passes, is_valid, level_passes, settle_passes, takes, turn_passes, walk_passes}
 use Rattle.clap.specs.Matches.{matched_of, raw_values}
 use Rattle.clap.specs.declared.parser.matches.Found.{Found}
 use Rattle.clap.proofs.OnLiterals.{clap_on_literals}
@@ -94,8 +94,8 @@ command_takes : (v : Verb) (word : Text) (more : List Text) → list_all is_plai
     → takes program_app (name_of v ∷ word ∷ more) ≡ true
 command_takes v word more plain enough few =
     let below : entered_passes app (Some (name_of v, word ∷ more)) ≡ true =
-        ap (λ o. option_map_or (λ s. level_passes s [] nothing_held (word ∷ more) false) o true) (finds_leaf v)
-        ∙ leaf_takes (name_of v) (count_of v).start_inclusive (count_of v).end_inclusive (several v) word more plain enough few in
+    ap (λ o. option_map_or (λ s. level_passes s [] nothing_held (word ∷ more) false) o true) (finds_leaf v)
+    ∙ leaf_takes (name_of v) (count_of v).start_inclusive (count_of v).end_inclusive (several v) word more plain enough few in
     let simple : is_simple program_app ≡ true = refl in
     ap (λ (w : Walk). is_simple program_app && (entered_passes app w.stopped
     && (walk_passes app.top (names_of app) (walk_from nothing_held) (name_of v ∷ word ∷ more) && top_end_passes w (is_some (entered app w.stopped)))))

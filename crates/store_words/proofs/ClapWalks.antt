@@ -1,16 +1,14 @@
 -- What `clap` makes of plain words at a command with one argument that takes them all.
-use Rattle.std.proofs.Common.{◌≡◌, ℕ, zero, suc, ◌+◌, ◌≤◌, ◌<◌, ◌&&◌, ◌==◌, Bool, true, false, not, cond, List, [], ◌∷◌, ◌++◌, length, Option, Some, None, nat_le, refl, sym, ap, ap₂, subst, ◌∙◌, arith, codes, true≢false, option_map, option_and_then, append_assoc, append-nil}
-use Rattle.std.specs.List.{list_all, fold, find}
-use Rattle.std.specs.Str.{bytes_eq}
+use Rattle.std.proofs.Common.{◌≡◌, ℕ, ◌&&◌, ◌==◌, Bool, true, false, not, cond, List, [], ◌∷◌, ◌++◌, length, Some, None, nat_le, refl, sym, ap, ap₂, ◌∙◌, codes, true≢false, option_and_then, append_assoc, append-nil}
+use Rattle.std.specs.List.{list_all, fold}
 use Rattle.std.proofs.lemmas.Bool.{and_parts}
 use Rattle.clap.specs.Lexer.{short_of, short_of_rest}
-use Rattle.clap.specs.Walk.{Held, Names, Row, Rule, Text, Waiting, Walk, answers_to, idle, positional, value, all_of, finished, nothing_held, rows_after, takes_several, walk, walk_from, walked, word_met}
-use Rattle.clap.specs.Simple.{App, Shape, built, is_simple, label_of, names_of, new_rule, new_shape, rows_at, subcommand_of}
+use Rattle.clap.specs.Walk.{Held, Rule, Text, Walk, idle, positional, value, all_of, finished, nothing_held, rows_after, takes_several, walk, walk_from, walked, word_met}
+use Rattle.clap.specs.Simple.{Shape, new_rule, new_shape}
 use Rattle.clap.specs.ValueTests.{accepts}
-use Rattle.clap.specs.Takes.{default_passes, is_valid, level_passes, settle_passes, takes, turn_passes, values_pass, walk_passes, word_passes}
+use Rattle.clap.specs.Takes.{default_passes, is_valid, level_passes, settle_passes, turn_passes, walk_passes, word_passes}
 use Rattle.clap.specs.declared.builder.action.ArgAction.TheVariants.{Set}
 use Rattle.clap.specs.declared.builder.value_parser.ValueParser.TheVariants as parser
-use Rattle.clap.proofs.OnLiterals.{clap_on_literals}
 use Rattle.store_words.specs.Grammar.{is_plain}
 
 -- ---- one plain word

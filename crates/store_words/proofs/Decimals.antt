@@ -1,6 +1,6 @@
 -- Words of digits, read by `parse`.
-use Rattle.std.proofs.Common.{◌≡◌, ◌≢◌, ℕ, zero, suc, ◌+◌, ◌-◌, ◌*◌, ◌^◌, ◌≤◌, ◌<◌, Bool, true, false, List, [], ◌∷◌, length, get_or, Result, Ok, Err, refl, sym, ap, subst, ◌∙◌, arith, inl, inr}
-use Rattle.std.specs.Prelude.{decimal, IsTrue}
+use Rattle.std.proofs.Common.{◌≡◌, ◌≢◌, ℕ, zero, suc, ◌^◌, ◌<◌, true, List, [], ◌∷◌, length, get_or, Result, Ok, refl, sym, ap, subst, ◌∙◌, arith}
+use Rattle.std.specs.Prelude.{decimal}
 use Rattle.std.specs.Result.{OkIff}
 use Rattle.std.specs.Str.Parse.{AllDigits, digits_value, ParsesUnsigned}
 use Rattle.std.proofs.lemmas.Bool.Decides.{nat_tests}
@@ -25,7 +25,7 @@ tidy_zero (first ∷ next ∷ rest) tidy is some = absurd (grind (arith, nat_tes
 pub read_is : {E : Type 0} (word : List ℕ) (r : Result ℕ E) (n : ℕ) → is_tidy word ≡ true → ParsesUnsigned 64 10 word r → r ≡ Ok n → word ≡ decimal n
 read_is {E} word r n tidy parses is =
     let read = subst (λ (x : Result ℕ E). OkIff x (AllDigits 10 word × (0 < length word) × (digits_value 10 word < 2 ^ 64)) (digits_value 10 word)) is
-        (parse_plain own 64 word r parses (tidy_first word tidy)) in
+    (parse_plain own 64 word r parses (tidy_first word tidy)) in
     sym (ap decimal read.1 ∙ decimal-digits_value own word read.0.0 read.0.1 (λ first. tidy_zero word tidy first read.0.1) read.0.2)
 
 tidy_digits : (word : List ℕ) → AllDigits 10 word → (get_or word 0 0 ≡ 48 → length word ≡ 1) → is_tidy word ≡ true

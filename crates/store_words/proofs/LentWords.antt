@@ -1,5 +1,5 @@
 -- The texts of lent words, word by word.
-use Rattle.std.proofs.Common.{◌≡◌, ℕ, zero, suc, ◌+◌, ◌-◌, ◌≤◌, ◌<◌, List, [], ◌∷◌, length, get_or, take, drop, refl, sym, ap, ◌∙◌, arith, Bor}
+use Rattle.std.proofs.Common.{◌≡◌, ℕ, ◌-◌, ◌≤◌, ◌<◌, List, [], ◌∷◌, length, get_or, take, drop, refl, sym, ap, arith, Bor}
 use Rattle.std.proofs.lemmas.List.{take_all}
 use Rattle.store_words.specs.Grammar.{Text}
 use Rattle.store_words.specs.Reading.{words_of}

@@ -1,5 +1,5 @@
 -- From the words behind a command's name to all words.
-use Rattle.std.proofs.Common.{◌≡◌, ◌⊎◌, ℕ, ◌&&◌, Bool, true, false, List, [], ◌∷◌, Option, Some, None, Result, Ok, Err, IfOk, MatchResult, refl, sym, ap, subst, ◌∙◌, true≢false, cond, codes, inl, inr}
+use Rattle.std.proofs.Common.{◌≡◌, ◌⊎◌, Bool, true, false, List, [], ◌∷◌, Option, Some, None, Result, Ok, Err, refl, sym, ap, subst, ◌∙◌, true≢false, cond, codes, inl, inr}
 use Rattle.std.specs.List.{list_all}
 use Rattle.std.specs.Str.{bytes_eq}
 use Rattle.std.proofs.lemmas.Slice.Eq.{bytes_eq-Decides}
@@ -8,7 +8,7 @@ use Rattle.store_words.specs.Grammar.{GiveSizes, Spell, Takes, Text, is_plain}
 use Rattle.store_words.specs.Reading.{IsPlanned, IsTaken}
 use Rattle.store_words.specs.Verbs.{name_of, verb_named}
 use Rattle.store_words.specs.declared.fault.WordsFault.{WordsFault}
-use Rattle.store_words.specs.declared.fault.WordsFault.TheVariants.{NoMemory, Words}
+use Rattle.store_words.specs.declared.fault.WordsFault.TheVariants.{NoMemory}
 use Rattle.store_words.specs.declared.plan.Plan.{Plan}
 use Rattle.store_words.specs.declared.plan.WordSizes.{WordSizes}
 use Rattle.store_words.specs.declared.verb.Verb.{Verb}
@@ -115,10 +115,10 @@ first_of (first ∷ rest) = Some first
 pub unnamed_refused : (words : List Text) (first : Text) (rest : List Text) (fault : WordsFault) → words ≡ first ∷ rest → verb_named first ≡ None → IsPlanned words (Err fault)
 unnamed_refused words first rest fault is none =
     refused words fault (λ command spell.
-        let same : first ∷ rest ≡ name_of spell.verb ∷ spell.rest = sym is ∙ spell.named in
-        let name : first ≡ name_of spell.verb = cc in
-        let some : Some spell.verb ≡ None = sym (named_back spell.verb) ∙ ap verb_named (sym name) ∙ none in
-        absurd cc)
+    let same : first ∷ rest ≡ name_of spell.verb ∷ spell.rest = sym is ∙ spell.named in
+    let name : first ≡ name_of spell.verb = cc in
+    let some : Some spell.verb ≡ None = sym (named_back spell.verb) ∙ ap verb_named (sym name) ∙ none in
+    absurd cc)
 
 same_said : (words rest : List Text) (v : Verb) (command : Plan) → words ≡ name_of v ∷ rest → Spell words command → Takes v rest command
 same_said words rest v command is spell =

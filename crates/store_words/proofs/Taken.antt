@@ -1,10 +1,9 @@
 -- What each command's words say, and that they say nothing else.
-use Rattle.std.proofs.Common.{◌≡◌, ℕ, List, [], ◌∷◌, Option, Some, None, Result, Ok, Err, IfOk, IfSome, IsErr, MatchResult, true≢false, refl, sym, ap, ap₂, subst, ◌∙◌, arith}
-use Rattle.store_words.specs.Grammar.{AreLines, AreSizes, GiveSizes, Takes, Text, default_sizes}
+use Rattle.std.proofs.Common.{◌≡◌, ℕ, List, [], ◌∷◌, Option, Some, Result, Ok, Err, IfSome, IsErr, true≢false, sym, ap, ap₂, subst}
+use Rattle.store_words.specs.Grammar.{AreLines, AreSizes, GiveSizes, Takes, Text}
 use Rattle.store_words.specs.Numbers.{IsNumber, IsChannelCount}
 use Rattle.store_words.specs.Reading.{IsTaken}
 use Rattle.store_words.specs.declared.fault.WordsFault.{WordsFault}
-use Rattle.store_words.specs.declared.fault.WordsFault.TheVariants.{NoMemory}
 use Rattle.store_words.specs.declared.plan.Plan.{Plan}
 use Rattle.store_words.specs.declared.plan.Plan.TheVariants as plan
 use Rattle.store_words.specs.declared.plan.WordSizes.{WordSizes}

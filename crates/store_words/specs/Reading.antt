@@ -1,5 +1,5 @@
 -- What the readers of a command's words say. No public clause cites this module.
-use Rattle.std.specs.Prelude.{◌≡◌, ℕ, List, map, Result, IfOk, MatchResult}
+use Rattle.std.specs.Prelude.{◌≡◌, List, map, Result, IfOk, MatchResult}
 use Rattle.std.specs.Borrow.{Bor}
 use Rattle.store_words.specs.Grammar.{Spell, Takes, Text}
 use Rattle.store_words.specs.declared.fault.WordsFault.{WordsFault}

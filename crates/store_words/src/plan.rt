@@ -45,11 +45,20 @@ pub enum Plan {
         sizes: WordSizes,
     },
     /// Opens the folder and counts what it holds.
-    Check { dir: Word, channels: u32 },
+    Check {
+        dir: Word,
+        channels: u32,
+    },
     /// Opens the folder and tells every object.
-    Export { dir: Word, channels: u32 },
+    Export {
+        dir: Word,
+        channels: u32,
+    },
     /// The lines of a script that is made up from a number.
-    Generate { lines: u64, number: u32 },
+    Generate {
+        lines: u64,
+        number: u32,
+    },
     /// Runs the lines of such a script and tells what came of them.
     Trial {
         dir: Word,

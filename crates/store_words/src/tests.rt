@@ -2,13 +2,15 @@
 use crate::help::{Shown, asked};
 use crate::words::plan;
 use crate::{Verb, WordsFault};
+use std::alloc::Global;
+use std::process::Abort;
 
 /// The words of a line, cut at each space.
-fn words_of(rt: HostRuntime, line: &str) -> Vec<String> {
-    let mut words = Vec::new(rt.alloc());
+fn words_of(rt: &impl Abort, alloc: Global, line: &str) -> Vec<String> {
+    let mut words = Vec::new(alloc);
     for word in line.split(' ') {
-        let word = String::from_str(rt.alloc(), word).expect(&rt, "memory");
-        words.push(word).expect(&rt, "memory");
+        let word = String::from_str(alloc, word).expect(rt, "memory");
+        words.push(word).expect(rt, "memory");
     }
     words
 }
@@ -21,21 +23,42 @@ fn words_are_told(rt: HostRuntime) {
     let cases = [
         ("run d 2", "Run", "channels: 2, ", sizes),
         ("run d 64 0 1 0", "Run", "channels: 64, ", least),
-        ("run d 1 1073741824 1073741824 1000", "Run", "channels: 1, ", most),
+        (
+            "run d 1 1073741824 1073741824 1000",
+            "Run",
+            "channels: 1, ",
+            most,
+        ),
         ("work d 4 16", "Work", "channels: 4, workers: 16, ", sizes),
-        ("work d 4 1 0 1 0", "Work", "channels: 4, workers: 1, ", least),
+        (
+            "work d 4 1 0 1 0",
+            "Work",
+            "channels: 4, workers: 1, ",
+            least,
+        ),
         ("check d 8", "Check", "channels: 8", ""),
         ("export d 16", "Export", "channels: 16", ""),
-        ("trial d 32 7 7", "Trial", "channels: 32, lines: 7, number: 7", ""),
+        (
+            "trial d 32 7 7",
+            "Trial",
+            "channels: 32, lines: 7, number: 7",
+            "",
+        ),
     ];
     for (line, name, numbers, sizes) in cases {
-        let given = plan(rt.alloc(), words_of(rt, line).as_slice()).expect(&rt, line);
+        let given = plan(rt.alloc(), words_of(&rt, rt.alloc(), line).as_slice()).expect(&rt, line);
         let label = if sizes.is_empty() { "" } else { "sizes: " };
-        let wanted = format!(in rt.alloc(); "{name} {{ dir: Word {{ text: \"d\" }}, {numbers}{label}{sizes} }}").expect(&rt, "memory");
+        let wanted = format!(in rt.alloc();
+            "{name} {{ dir: Word {{ text: \"d\" }}, {numbers}{label}{sizes} }}"
+        ).expect(&rt, "memory");
         let shown = format!(in rt.alloc(); "{given:?}").expect(&rt, "memory");
         assert!(rt; shown.as_str() == wanted.as_str());
     }
-    let given = plan(rt.alloc(), words_of(rt, "generate 1000000 2147483647").as_slice()).expect(&rt, "generate");
+    let given = plan(
+        rt.alloc(),
+        words_of(&rt, rt.alloc(), "generate 1000000 2147483647").as_slice(),
+    )
+    .expect(&rt, "generate");
     let shown = format!(in rt.alloc(); "{given:?}").expect(&rt, "memory");
     assert!(rt; shown.as_str() == "Generate { lines: 1000000, number: 2147483647 }");
 }
@@ -63,7 +86,7 @@ fn other_words_are_refused(rt: HostRuntime) {
         "trial d 2 7",
     ];
     for line in cases {
-        let given = plan(rt.alloc(), words_of(rt, line).as_slice());
+        let given = plan(rt.alloc(), words_of(&rt, rt.alloc(), line).as_slice());
         assert!(rt; matches!(&given, Err(WordsFault::Words)));
     }
 }
@@ -81,11 +104,15 @@ fn help_is_shown(rt: HostRuntime) {
         ("check d 1", None),
     ];
     for (line, wanted) in cases {
-        assert!(rt; asked(words_of(rt, line).as_slice()) == wanted);
+        assert!(rt; asked(words_of(&rt, rt.alloc(), line).as_slice()) == wanted);
     }
     for verb in Verb::ALL {
         let text = Shown::Command(verb).text();
-        assert!(rt; Shown::Program.text().contains(verb.name()) && text.contains(verb.name()) && text.contains("Example:"));
+        assert!(rt;
+            Shown::Program.text().contains(verb.name())
+                && text.contains(verb.name())
+                && text.contains("Example:")
+        );
     }
     assert!(rt; Shown::Version.text() == "store_main 0.1.0");
 }

@@ -1,4 +1,4 @@
-use Rattle.std.proofs.Common.{◌≡◌, Some, subst, sym}
+use Rattle.std.proofs.Common.{◌≡◌, ◌<◌, ◌^◌, Some, arith, subst, sym}
 use Rattle.session_lines.specs.Exports.{IsDueNext, IsExportStep}
 use Rattle.session_lines.specs.Steady.{IsSmallId}
 use Rattle.session_lines.specs.declared.exporting.ExportStep.{ExportStep}
@@ -8,7 +8,8 @@ use Rattle.session.proofs.export_line.outcome_of_step.Goals as goal
 pub returns-in-Look-clause-steady : goal.returns-in-Look-clause-steady
 returns-in-Look-clause-steady c = λ memory due.
     let asked : c.args.export.asked ≡ Some c.in-Look.id = subst (λ (s : ExportStep). IsDueNext c.args.export s) c.in-Look.is due in
-    (asked, subst IsSmallId (sym asked) c.is_number.ensures)
+    let small : c.in-Look.id < 2 ^ 64 = omega arith in
+    (asked, subst IsSmallId (sym asked) small)
 
 pub returns-in-Look-clause-meets : goal.returns-in-Look-clause-meets
 returns-in-Look-clause-meets c = λ is_next_type text state memory storage due rest step.

@@ -1,4 +1,4 @@
-use Rattle.std.proofs.Common.{◌∙◌, ◌<◌, ◌^◌, ℕ, refl, subst, sym}
+use Rattle.std.proofs.Common.{◌∙◌, ◌<◌, ◌^◌, ℕ, arith, refl, subst, sym}
 use Rattle.std.proofs.lemmas.Result.{IfOk-weaker}
 use Rattle.lazy_refs.specs.declared.step.LoadStep.{LoadStep}
 use Rattle.lazy_refs.specs.declared.step.LoadStep.TheVariants as steps
@@ -11,7 +11,8 @@ use Rattle.session.proofs.loading.take_step.Goals as goal
 pub returns-in-Want-clause-steady : goal.returns-in-Want-clause-steady
 returns-in-Want-clause-steady c =
     let s : IsSteadyStep c.args.memory.now c.args.loading (steps.Want c.in-Want.id) c.args.purpose = subst (λ (step : LoadStep). IsSteadyStep c.args.memory.now c.args.loading step c.args.purpose) c.in-Want.is c.requires.steady in
-    (s.asks, (record { mappings = s.mappings; typed = s.typed; undone = s.undone; small = subst (λ (n : ℕ). n < 2 ^ 64) (sym s.asks) c.is_number.ensures }, s.steady))
+    let small : c.in-Want.id < 2 ^ 64 = omega arith in
+    (s.asks, (record { mappings = s.mappings; typed = s.typed; undone = s.undone; small = subst (λ (n : ℕ). n < 2 ^ 64) (sym s.asks) small }, s.steady))
 
 pub returns-in-Want-clause-broken : goal.returns-in-Want-clause-broken
 returns-in-Want-clause-broken c = rw c.in-Want.is refl

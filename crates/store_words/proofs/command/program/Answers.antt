@@ -1,8 +1,7 @@
-use Rattle.std.proofs.Common.{rules, ◌≡◌, ◌∙◌, ap, ap₂, true}
+use Rattle.std.proofs.Common.{◌≡◌, ◌∙◌, ap, ap₂, true}
 use Rattle.std.proofs.lemmas.Result.{IfOk-weaker}
-use Rattle.clap.specs.Simple.{App, Shape, app_of, app_of_fields, on_top, with_subcommand}
-use Rattle.store_words.specs.ClapCommands.{bare_app, command_shape}
-use Rattle.store_words.specs.declared.verb.Verb.TheVariants.{Run, Work, Check, Export, Generate}
+use Rattle.clap.specs.Simple.{App, app_of, app_of_fields, on_top, with_subcommand}
+use Rattle.store_words.specs.ClapCommands.{bare_app}
 use Rattle.store_words.proofs.command.program.Goals as goal
 
 abbrev without_name : App → App
@@ -20,7 +19,7 @@ returns c =
     let unflagged : app_of c.disable_help_flag.result ≡ without_flag (app_of c.no_binary_name.result) = ap app_of_fields c.disable_help_flag.ensures in
     let unhelped : app_of c.disable_help_subcommand.result ≡ without_help (app_of c.disable_help_flag.result) = ap app_of_fields c.disable_help_subcommand.ensures in
     let bare : app_of c.disable_help_subcommand.result ≡ bare_app =
-        unhelped ∙ ap without_help (unflagged ∙ ap without_flag (named ∙ ap without_name c.new.ensures.app)) in
+    unhelped ∙ ap without_help (unflagged ∙ ap without_flag (named ∙ ap without_name c.new.ensures.app)) in
     let one = c.in_ok-subcommand.ensures.shape c.in_ok-command.ensures.local ∙ ap₂ with_subcommand bare c.in_ok-command.ensures.shape in
     let two = c.in_ok-subcommand-2.ensures.shape c.in_ok-command-2.ensures.local ∙ ap₂ with_subcommand one c.in_ok-command-2.ensures.shape in
     let three = c.in_ok-subcommand-3.ensures.shape c.in_ok-command-3.ensures.local ∙ ap₂ with_subcommand two c.in_ok-command-3.ensures.shape in

@@ -7,5 +7,5 @@ pub returns : goal.returns
 returns c =
     let met : c.subcommand.result ≡ Some (c.in_ok-command.field-0-0, c.in_ok-command.command) = search rules in
     let rows : Some (rows_of (found_of c.in_ok-command.command.now)) ≡ option_map (λ p. p.1) (subcommand_rows_of c.args.found.now) =
-        sym (ap (option_map (λ p. rows_of (found_of p.1.now))) met) ∙ c.subcommand.ensures.rows in
+    sym (ap (option_map (λ p. rows_of (found_of p.1.now))) met) ∙ c.subcommand.ensures.rows in
     kept_is _ (found_of c.in_ok-command.command.now) _ rows c.get_strs.ensures

@@ -1,4 +1,4 @@
-use Rattle.std.proofs.Common.{rules, ◌≡◌, ◌∙◌, ◌∷◌, ap, ap₂, true}
+use Rattle.std.proofs.Common.{◌∙◌, ap, ap₂}
 use Rattle.clap.specs.Simple.{is_simple, subcommand_of}
 use Rattle.clap.specs.Takes.{takes}
 use Rattle.store_words.specs.ClapCommands.{kept_of}
