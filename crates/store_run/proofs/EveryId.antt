@@ -12,21 +12,22 @@ use Rattle.session_lines.specs.Broken.{looked_up}
 use Rattle.session_lines.specs.Steps.{IsListed}
 use Rattle.session_lines.specs.declared.outcome.Waiting.{Waiting}
 
-no_entity : Entity
+pub no_entity : Entity
 no_entity = record { type_id = 0; refs = []; plain = [] }
 
 -- the ids below n
-ids_below : ℕ → Graph
+pub ids_below : ℕ → Graph
 ids_below zero = []
 ids_below (suc n) = record { id = n; entity = no_entity } ∷ ids_below n
 
 lists_below : (n x : ℕ) → x < n → lists (ids_below n) x ≡ true
+unfolding ids_below
 lists_below zero x less = absurd (omega arith)
-lists_below (suc n) x less = by (nat_eq x n) refl
+lists_below (suc n) x less = by (nat_eq x n) refl (λ h. lists_below n x h)
   where
-    by : (b : Bool) → nat_eq x n ≡ b → is_some (cond b (Some no_entity) (entity_of (ids_below n) x)) ≡ true
-    by true e = refl
-    by false e = elim (cases_lt x n) [ inl h ↦ lists_below n x h | inr h ↦ let same : x ≡ n = omega arith in absurd (eqb-false x n e same) ]
+    by : (b : Bool) → nat_eq x n ≡ b → (x < n → lists (ids_below n) x ≡ true) → is_some (cond b (Some no_entity) (entity_of (ids_below n) x)) ≡ true
+    by true e below = refl
+    by false e below = elim (cases_lt x n) [ inl h ↦ below h | inr h ↦ let same : x ≡ n = omega arith in absurd (eqb-false x n e same) ]
 
 unfoldable pub every_id : Graph
 every_id = ids_below (2 ^ 64)
