@@ -3,6 +3,16 @@ use std::alloc::{AllocError, Global};
 use std::test::Fail;
 use type_desc::Text;
 
+/// Whether the name is that of this member.
+fn is_member(name: &RefName, type_name: &str, member_name: &str) -> bool {
+    match name {
+        RefName::OfMember(owner, member) => {
+            owner.as_str() == type_name && member.as_str() == member_name
+        }
+        RefName::OfType(_) => false,
+    }
+}
+
 /// Whether this member was found.
 fn is_found(found: Option<(&Text, &Text)>, type_name: &str, member_name: &str) -> bool {
     match found {
@@ -46,12 +56,8 @@ fn three_pairs(alloc: Global) -> Result<RefactorTable, AddFault> {
 
 #[test]
 fn names_are_read(rt: HostRuntime) -> Result<(), Fail> {
-    match read_name(rt.alloc(), b"A.left_1")? {
-        RefName::OfMember(name, member) => {
-            assert_eq!(rt; (name.as_str(), member.as_str()), ("A", "left_1"));
-        }
-        RefName::OfType(_) => assert!(rt; false, "a member"),
-    }
+    let name = read_name(rt.alloc(), b"A.left_1")?;
+    assert!(rt; is_member(&name, "A", "left_1"));
     let fault = read_name(rt.alloc(), b"A.x.y").err();
     assert_eq!(rt; fault, Some(NameFault::Bad { at: 3 }));
     Ok(())
