@@ -4,7 +4,7 @@ use crate::silent_disk::SilentDisk;
 use crate::windows::window;
 use data_file::ChunkWalk;
 use entity_index::EntityIndex;
-use recovery::{ChannelLogFault, ChunkRange, read_log, take_in};
+use disk_opening::{ChannelLogFault, ChunkRange, read_log, take_in};
 use std::alloc::Global;
 use std::test::Fail;
 use store_io::{Disk, MemDisk};

@@ -12,13 +12,8 @@ mod Once
 mod ShownAlike
 mod TypesGrow
 mod Serving
-mod Walking
+pub mod Walking
 mod Searched
 mod Faults
-mod Taking
 mod Empty
 mod FromStored
-mod LeftOut
-mod Passing
-mod ReadFiles
-mod FaultsSaid

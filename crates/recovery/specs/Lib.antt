@@ -5,8 +5,3 @@ pub mod Disks
 pub mod Alone
 pub mod Walking
 pub mod Searching
-pub mod Indexes
-pub mod ChunkFaults
-pub mod Ranges
-pub mod LogFaults
-pub mod LogReading

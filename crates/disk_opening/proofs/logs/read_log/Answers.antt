@@ -1,10 +1,10 @@
 -- A cut that was met is one of the log with this channel's header.
 use Rattle.std.proofs.Common.{◌≡◌, ◌∙◌, ℕ, List, Err, ap, subst}
 use Rattle.channel.specs.Images.{log_header}
-use Rattle.recovery.specs.LogFaults.{IsCutAt}
-use Rattle.recovery.specs.declared.logs.ChannelLogFault.TheVariants as told
-use Rattle.recovery.proofs.FaultsSaid.{same_fault}
-use Rattle.recovery.proofs.logs.read_log.Goals as goal
+use Rattle.disk_opening.specs.LogFaults.{IsCutAt}
+use Rattle.disk_opening.specs.declared.logs.ChannelLogFault.TheVariants as told
+use Rattle.disk_opening.proofs.FaultsSaid.{same_fault}
+use Rattle.disk_opening.proofs.logs.read_log.Goals as goal
 
 pub returns-in_err-inventory-clause-cut : goal.returns-in_err-inventory-clause-cut
 returns-in_err-inventory-clause-cut g c tells at is =

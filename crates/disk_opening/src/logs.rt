@@ -9,8 +9,8 @@ ghost use Rattle.tx_entry.specs.declared.entry.Entry.{Entry as AnyEntry};
 ghost use Rattle.transactions_file.specs.Inventory.{allowed, step};
 ghost use Rattle.channel_files.specs.Chunks.{ranges_of, ranges_step};
 ghost use Rattle.channel.specs.Images.{HasLog, IsLogFile, log_header, state_of};
-ghost use Rattle.recovery.specs.LogFaults.{IsCutAt, IsEntryFault, IsOrderFault};
-ghost use Rattle.recovery.specs.LogReading.{AreEntries};
+ghost use Rattle.disk_opening.specs.LogFaults.{IsCutAt, IsEntryFault, IsOrderFault};
+ghost use Rattle.disk_opening.specs.LogReading.{AreEntries};
 
 use crate::ranges::Ranges;
 use gated_log::{LogFault, Opening, begin};
@@ -40,7 +40,7 @@ pub enum ChannelLogFault {
 
 impl From<AllocError> for ChannelLogFault {
     ghost use Rattle.std.specs.Prelude.{◌≡◌};
-    ghost use Rattle.recovery.specs.declared.logs.ChannelLogFault.TheVariants.{NoMemory};
+    ghost use Rattle.disk_opening.specs.declared.logs.ChannelLogFault.TheVariants.{NoMemory};
 
     ghost from_gives = { λ _ e. e ≡ NoMemory };
 
@@ -52,7 +52,7 @@ impl From<AllocError> for ChannelLogFault {
 impl From<LogFault> for ChannelLogFault {
     ghost use Rattle.std.specs.Prelude.{◌≡◌};
     ghost use Rattle.channel.specs.Images.{HasLog, IsLogFile, log_header, state_of};
-    ghost use Rattle.recovery.specs.LogFaults.{channel_log_fault};
+    ghost use Rattle.disk_opening.specs.LogFaults.{channel_log_fault};
 
     ghost from_gives = { λ e f. f ≡ channel_log_fault e };
 

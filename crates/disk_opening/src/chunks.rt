@@ -6,7 +6,7 @@ ghost use Rattle.channel_files.specs.Chunks.{chunk_at};
 ghost use Rattle.channel_files.specs.Table.{Occurrence, occurrences_of};
 ghost use Rattle.channel.specs.Rows.{opened_row};
 ghost use Rattle.channel.specs.ChunkRule.{IsRightRange};
-ghost use Rattle.recovery.specs.Indexes.{IsIndexOf, range_of};
+ghost use Rattle.disk_opening.specs.Indexes.{IsIndexOf, range_of};
 
 use data_file::{ChunkWalk, WalkFault, next_header};
 use entity_form::Header;
@@ -26,7 +26,7 @@ pub enum ChunkFault {
 
 impl From<WalkFault> for ChunkFault {
     ghost use Rattle.std.specs.Prelude.{◌≡◌};
-    ghost use Rattle.recovery.specs.ChunkFaults.{walk_fault};
+    ghost use Rattle.disk_opening.specs.ChunkFaults.{walk_fault};
 
     ghost from_gives = { λ e f. f ≡ walk_fault e };
 
@@ -40,7 +40,7 @@ impl From<WalkFault> for ChunkFault {
 
 impl From<NoMemory> for ChunkFault {
     ghost use Rattle.std.specs.Prelude.{◌≡◌};
-    ghost use Rattle.recovery.specs.declared.chunks.ChunkFault.TheVariants.{NoMemory};
+    ghost use Rattle.disk_opening.specs.declared.chunks.ChunkFault.TheVariants.{NoMemory};
 
     ghost from_gives = { λ _ f. f ≡ NoMemory };
 

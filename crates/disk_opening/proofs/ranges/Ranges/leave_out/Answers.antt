@@ -1,9 +1,9 @@
 -- What is kept is what stands elsewhere.
 use Rattle.std.proofs.Common.{◌≡◌, ◌∙◌, ap, map, rules}
 use Rattle.std.proofs.lemmas.Fn.{filter_same}
-use Rattle.recovery.specs.Ranges.{range_in}
-use Rattle.recovery.proofs.LeftOut.{is_elsewhere, left_out}
-use Rattle.recovery.proofs.ranges.Ranges.leave_out.Goals as goal
+use Rattle.disk_opening.specs.Ranges.{range_in}
+use Rattle.disk_opening.proofs.LeftOut.{is_elsewhere, left_out}
+use Rattle.disk_opening.proofs.ranges.Ranges.leave_out.Goals as goal
 
 pub returns : goal.returns
 returns c =

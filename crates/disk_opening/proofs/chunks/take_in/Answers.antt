@@ -1,8 +1,8 @@
 -- The headers of a chunk are read one by one.
 use Rattle.std.proofs.Common.{◌+◌, ◌<◌, ℕ, List, Ok, Err, None, refl, ap, subst, ◌∙◌, arith}
 use Rattle.data_file.specs.Rule.{IsEntityAt}
-use Rattle.recovery.proofs.Taking.{bad_walk, below, fault_stops, moved_on, no_end, taken_begins, taken_done, taken_on, within_on}
-use Rattle.recovery.proofs.chunks.take_in.Goals as goal
+use Rattle.disk_opening.proofs.Taking.{bad_walk, below, fault_stops, moved_on, no_end, taken_begins, taken_done, taken_on, within_on}
+use Rattle.disk_opening.proofs.chunks.take_in.Goals as goal
 
 pub headers-init : goal.headers-init
 headers-init g c = record {

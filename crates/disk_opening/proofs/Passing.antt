@@ -5,8 +5,8 @@ use Rattle.std.proofs.lemmas.List.Sums.{fold-append}
 use Rattle.tx_entry.specs.Entries.{entry_of}
 use Rattle.transactions_file.specs.Inventory.{State, inventory_of, start, step}
 use Rattle.channel_files.specs.Chunks.{Range, ranges_of, ranges_step}
-use Rattle.recovery.specs.LogReading.{HasPassed}
-use Rattle.recovery.specs.LogFaults.{HasRightFront, IsEntryFault}
+use Rattle.disk_opening.specs.LogReading.{HasPassed}
+use Rattle.disk_opening.specs.LogFaults.{HasRightFront, IsEntryFault}
 
 pub passed_on : (payloads left left' : List (List ℕ)) (count count' : ℕ) (state state' : State) (ranges ranges' : List Range) (payload : List ℕ) → HasPassed payloads left count state ranges
     → left ≡ payload ∷ left' → step (Some state) payload ≡ Some state' → ranges' ≡ ranges_step ranges payload → count' ≡ count + 1 → HasPassed payloads left' count' state' ranges'

@@ -2,13 +2,13 @@
 use Rattle.std.proofs.Common.{◌≡◌, ◌<◌, ◌+◌, ◌∷◌, ℕ, List, length, take, drop, slice_index, false, Some, Err, ap, subst, sym, ◌∙◌, arith}
 use Rattle.gated_log.specs.Log.{IsNoLog, is_whole}
 use Rattle.gated_log.specs.Reading.{IsReading, rest_of}
-use Rattle.recovery.specs.LogFaults.{IsCutAt, IsEntryFault}
-use Rattle.recovery.specs.LogReading.{HasPassed}
-use Rattle.recovery.specs.declared.logs.ChannelLogFault.TheVariants as told
-use Rattle.recovery.proofs.FaultsSaid.{cut_was, same_fault}
-use Rattle.recovery.proofs.Passing.{passed_on, right_front}
-use Rattle.recovery.proofs.ReadFiles.{ended_file}
-use Rattle.recovery.proofs.logs.read_entries.Goals as goal
+use Rattle.disk_opening.specs.LogFaults.{IsCutAt, IsEntryFault}
+use Rattle.disk_opening.specs.LogReading.{HasPassed}
+use Rattle.disk_opening.specs.declared.logs.ChannelLogFault.TheVariants as told
+use Rattle.disk_opening.proofs.FaultsSaid.{cut_was, same_fault}
+use Rattle.disk_opening.proofs.Passing.{passed_on, right_front}
+use Rattle.disk_opening.proofs.ReadFiles.{ended_file}
+use Rattle.disk_opening.proofs.logs.read_entries.Goals as goal
 
 pub returns-in_err-n-clause-cut : goal.returns-in_err-n-clause-cut
 returns-in_err-n-clause-cut g c tells at is =

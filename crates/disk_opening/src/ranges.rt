@@ -2,7 +2,7 @@
 
 ghost use Rattle.std.specs.Prelude.{◌≡◌, ◌++◌, ◌∷◌, ◌-◌, [], OnOk, OnErr, filter, length, map, take};
 ghost use Rattle.channel_files.specs.Chunks.{ranges_after, stands_elsewhere};
-ghost use Rattle.recovery.specs.Ranges.{range_in};
+ghost use Rattle.disk_opening.specs.Ranges.{range_in};
 
 use std::alloc::{AllocError, Global};
 use std::marker::Model;
@@ -26,7 +26,7 @@ pub struct Ranges {
 impl Model for Ranges {
     ghost use Rattle.std.specs.Prelude.{List, map};
     ghost use Rattle.channel_files.specs.Chunks.{Range};
-    ghost use Rattle.recovery.specs.Ranges.{range_in};
+    ghost use Rattle.disk_opening.specs.Ranges.{range_in};
 
     ghost Value = { List Range };
 

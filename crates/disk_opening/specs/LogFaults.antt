@@ -6,8 +6,8 @@ use Rattle.gated_log.specs.declared.opening.LogFault.TheVariants as log
 use Rattle.tx_entry.specs.Entries.{entry_of}
 use Rattle.tx_entry.specs.declared.entry.Entry.{Entry}
 use Rattle.transactions_file.specs.Inventory.{State, allowed, inventory_of}
-use Rattle.recovery.specs.declared.logs.ChannelLogFault.{ChannelLogFault}
-use Rattle.recovery.specs.declared.logs.ChannelLogFault.TheVariants.{Fault, Header, Log}
+use Rattle.disk_opening.specs.declared.logs.ChannelLogFault.{ChannelLogFault}
+use Rattle.disk_opening.specs.declared.logs.ChannelLogFault.TheVariants.{Fault, Header, Log}
 
 -- the records in front of this one are entries, each allowed where it stands
 pub record HasRightFront (payloads : List (List ℕ)) (at : ℕ) (state : State) (payload : List ℕ) : Type 0 where

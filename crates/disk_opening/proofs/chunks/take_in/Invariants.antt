@@ -1,7 +1,7 @@
 -- The headers of a chunk are read one by one.
 use Rattle.std.proofs.Common.{◌≡◌, ◌≤◌, ◌-◌, IsTrue}
-use Rattle.recovery.specs.Indexes.{IsTakenIn}
-use Rattle.recovery.proofs.chunks.take_in.Given as goal
+use Rattle.disk_opening.specs.Indexes.{IsTakenIn}
+use Rattle.disk_opening.proofs.chunks.take_in.Given as goal
 
 abbrev pub invariant-headers : goal.invariant-headers
 invariant-headers g l = record {

@@ -2,9 +2,9 @@
 use Rattle.std.proofs.Common.{◌≡◌, ℕ, Result, Ok, Err, IsErrAnd, IsErrOf, refl}
 use Rattle.gated_log.specs.declared.opening.LogFault.{LogFault}
 use Rattle.gated_log.specs.declared.opening.LogFault.TheVariants.{Fault, Header, Cut}
-use Rattle.recovery.specs.LogFaults.{channel_log_fault}
-use Rattle.recovery.specs.declared.logs.ChannelLogFault.{ChannelLogFault}
-use Rattle.recovery.specs.declared.logs.ChannelLogFault.TheVariants as told
+use Rattle.disk_opening.specs.LogFaults.{channel_log_fault}
+use Rattle.disk_opening.specs.declared.logs.ChannelLogFault.{ChannelLogFault}
+use Rattle.disk_opening.specs.declared.logs.ChannelLogFault.TheVariants as told
 
 pub cut_was : {T : Type 0} (r : Result T ChannelLogFault) (e : LogFault) (at : ℕ) → IsErrAnd r (λ f. f ≡ channel_log_fault e) → IsErrOf r (told.Log at) → e ≡ Cut at
 cut_was (Ok x) e at is was = absurd is

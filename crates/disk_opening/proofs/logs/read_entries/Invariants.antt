@@ -1,8 +1,8 @@
 -- The records of a log are read one by one.
 use Rattle.std.proofs.Common.{◌≡◌, ◌≤◌, ◌<◌, ◌-◌, IsTrue, length}
 use Rattle.gated_log.specs.Reading.{IsReading, rest_of}
-use Rattle.recovery.specs.LogReading.{HasPassed}
-use Rattle.recovery.proofs.logs.read_entries.Given as goal
+use Rattle.disk_opening.specs.LogReading.{HasPassed}
+use Rattle.disk_opening.proofs.logs.read_entries.Given as goal
 
 abbrev pub invariant-entries : goal.invariant-entries
 invariant-entries g l = record {

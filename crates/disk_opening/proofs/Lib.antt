@@ -1,0 +1,5 @@
+mod Taking
+mod LeftOut
+mod Passing
+mod ReadFiles
+mod FaultsSaid

@@ -1,0 +1,5 @@
+pub mod Indexes
+pub mod ChunkFaults
+pub mod Ranges
+pub mod LogFaults
+pub mod LogReading
