@@ -3,3 +3,6 @@ mod LeftOut
 mod Passing
 mod ReadFiles
 mod FaultsSaid
+mod PassedTypes
+mod ChunksRead
+mod LowFiles

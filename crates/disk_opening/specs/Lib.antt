@@ -3,3 +3,4 @@ pub mod ChunkFaults
 pub mod Ranges
 pub mod LogFaults
 pub mod LogReading
+pub mod TypesReading

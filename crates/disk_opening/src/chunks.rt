@@ -6,7 +6,7 @@ ghost use Rattle.channel_files.specs.Chunks.{chunk_at};
 ghost use Rattle.channel_files.specs.Table.{Occurrence, occurrences_of};
 ghost use Rattle.channel.specs.Rows.{opened_row};
 ghost use Rattle.channel.specs.ChunkRule.{IsRightRange};
-ghost use Rattle.disk_opening.specs.Indexes.{IsIndexOf, range_of};
+ghost use Rattle.disk_opening.specs.Indexes.{HasRowsOfIds, IsIndexOf, range_of};
 
 use data_file::{ChunkWalk, WalkFault, next_header};
 use entity_form::Header;
@@ -85,6 +85,8 @@ pub fn take_in<D: Disk>(
     ensures right { IsTrue D.tells → OnOk result ((number : ℕ) → IsRightRange walk.count walk.channel walk.next_id (D.reads disk.old) (range_of number walk)) }
     ensures index { IsTrue D.tells → OnOk result ((number : ℕ) (os : List Occurrence) → IsIndexOf index.old.contents os
         → IsIndexOf index.new.contents (os ++ occurrences_of (chunk_at (D.reads disk.old) (range_of number walk)))) }
+    // On any disk a row has a header that an entity of its id may have.
+    ensures rows { HasRowsOfIds index.old.contents → OnOk result (HasRowsOfIds index.new.contents) }
     // `BadChunk` only where the chunk is not right.
     ensures bad { IsTrue D.tells → (file at number : ℕ) → IsErrOf result (ChunkFault.BadChunk file at)
         → ¬ IsRightRange walk.count walk.channel walk.next_id (D.reads disk.old) (range_of number walk) }

@@ -1,23 +1,24 @@
 //! The transactions log of a channel is read.
 
-ghost use Rattle.std.specs.Prelude.{◌≡◌, ◌≢◌, ◌≤◌, ◌<◌, ◌⊎◌, ℕ, take, List, IsTrue, false, length, IfOk, OnOk, IsErr, IsErrOf, Ok, Some};
+ghost use Rattle.std.specs.Prelude.{◌≡◌, ◌≢◌, ◌≤◌, ◌<◌, ◌⊎◌, ◌↔◌, ℕ, take, List, IsTrue, false, length, IfOk, OnOk, IsErr, IsErrOf, Err, Ok, Some};
 ghost use Rattle.store_io.specs.Disk.{Rose};
 ghost use Rattle.gated_log.specs.Log.{payloads_of};
 ghost use Rattle.gated_log.specs.Reading.{IsReading, rest_of};
 ghost use Rattle.tx_entry.specs.Entries.{entry_of};
 ghost use Rattle.tx_entry.specs.declared.entry.Entry.{Entry as AnyEntry};
-ghost use Rattle.transactions_file.specs.Inventory.{allowed, step};
+ghost use Rattle.transactions_file.specs.Inventory.{after, allowed, step};
 ghost use Rattle.channel_files.specs.Chunks.{ranges_of, ranges_step};
 ghost use Rattle.channel.specs.Images.{HasLog, IsLogFile, log_header, state_of};
 ghost use Rattle.disk_opening.specs.LogFaults.{IsCutAt, IsEntryFault, IsOrderFault};
 ghost use Rattle.disk_opening.specs.LogReading.{AreEntries};
+ghost use Rattle.disk_opening.specs.Ranges.{HasLowFile};
 
 use crate::ranges::Ranges;
 use gated_log::{LogFault, Opening, begin};
 use std::alloc::{AllocError, Global};
 use store_io::Disk;
 use transactions_file::{Inventory, InventoryFault};
-use tx_entry::read_entry;
+use tx_entry::{Entry, read_entry};
 
 /// The file of the transactions log.
 pub const LOG_FILE: u32 = 0;
@@ -65,6 +66,17 @@ impl From<LogFault> for ChannelLogFault {
     }
 }
 
+/// Adds an entry to the inventory. Where it may come next, four bytes hold the number of its file.
+fn take_up(inventory: &mut Inventory, entry: &Entry) -> Result<(), InventoryFault>
+    ensures ok { OnOk result (inventory.new.state ≡ after inventory.old.state entry.now) }
+    ensures order { (result ≡ Err InventoryFault.Order) ↔ (allowed inventory.old.state entry.now ≡ false) }
+    ensures low { OnOk result (HasLowFile entry.now) }
+{
+    // The numbers of its files are below 2^31.
+    let _files = inventory.files();
+    inventory.add(entry)
+}
+
 /// Adds the entry that a record spells.
 fn add_record(
     inventory: &mut Inventory,
@@ -81,7 +93,7 @@ fn add_record(
     let Ok(entry) = read_entry(payload) else {
         return Err(ChannelLogFault::Entry { record: number });
     };
-    match inventory.add(&entry) {
+    match take_up(inventory, &entry) {
         Ok(()) => {}
         Err(InventoryFault::Order) => return Err(ChannelLogFault::Order { record: number }),
         Err(InventoryFault::NoMemory) => return Err(ChannelLogFault::NoMemory),

@@ -2,7 +2,7 @@
 
 ghost use Rattle.std.specs.Prelude.{◌≡◌, ◌++◌, ◌∷◌, ◌-◌, [], OnOk, OnErr, filter, length, map, take};
 ghost use Rattle.channel_files.specs.Chunks.{ranges_after, stands_elsewhere};
-ghost use Rattle.disk_opening.specs.Ranges.{range_in};
+ghost use Rattle.disk_opening.specs.Ranges.{HasLowFile, range_in};
 
 use std::alloc::{AllocError, Global};
 use std::marker::Model;
@@ -12,7 +12,7 @@ use tx_entry::Entry;
 #[derive(Clone, Copy, Debug, PartialEq, Eq)]
 pub struct ChunkRange {
     pub number: u64,
-    pub file: u64,
+    pub file: u32,
     pub at: u64,
     pub length: u64,
 }
@@ -51,6 +51,7 @@ impl Ranges {
 
     /// The chunks behind one more entry. A Truncation takes the last chunk back, a Deletion those of its file. Without memory nothing changes.
     pub fn add(&mut self, entry: &Entry) -> Result<(), AllocError>
+        requires { HasLowFile entry.now }
         ensures ok { OnOk result (self.new ≡ ranges_after self.old entry.now) }
         ensures err { OnErr result (self.new ≡ self.old) }
     {
@@ -62,13 +63,13 @@ impl Ranges {
                 at,
                 length,
                 ..
-            } => self.push(number, file, at, length),
+            } => self.push(number, file as u32, at, length),
             Entry::Transfer {
                 file,
                 at,
                 length,
                 ..
-            } => self.push(0, file, at, length),
+            } => self.push(0, file as u32, at, length),
             Entry::Truncation { .. } => {
                 self.take_back();
                 Ok(())
@@ -80,7 +81,7 @@ impl Ranges {
         }
     }
 
-    fn push(&mut self, number: u64, file: u64, at: u64, length: u64) -> Result<(), AllocError>
+    fn push(&mut self, number: u64, file: u32, at: u64, length: u64) -> Result<(), AllocError>
         ensures ok { OnOk result (self.new ≡ self.old ++ record { number = number; file = file; at = at; length = length } ∷ []) }
         ensures err { OnErr result (self.new ≡ self.old) }
     {
@@ -105,6 +106,6 @@ impl Ranges {
     fn leave_out(&mut self, file: u64)
         ensures { self.new ≡ filter (stands_elsewhere file) self.old }
     {
-        self.items.retain(|range| range.file != file);
+        self.items.retain(|range| range.file as u64 != file);
     }
 }

@@ -1,7 +1,7 @@
 -- The headers of a chunk are read one by one.
 use Rattle.std.proofs.Common.{◌+◌, ◌<◌, ℕ, List, Ok, Err, None, refl, ap, subst, ◌∙◌, arith}
 use Rattle.data_file.specs.Rule.{IsEntityAt}
-use Rattle.disk_opening.proofs.Taking.{bad_walk, below, fault_stops, moved_on, no_end, taken_begins, taken_done, taken_on, within_on}
+use Rattle.disk_opening.proofs.Taking.{bad_walk, below, fault_stops, moved_on, no_end, rows_on, taken_begins, taken_done, taken_on, within_on}
 use Rattle.disk_opening.proofs.chunks.take_in.Goals as goal
 
 pub headers-init : goal.headers-init
@@ -9,6 +9,7 @@ headers-init g c = record {
   moved = refl;
   within = c.requires.ordered;
   taken = λ told. let long = c.requires.file_length told in taken_begins c.args.walk (g.D.Disk.reads c.args.disk.now c.args.walk.file) c.args.index.now.contents (omega (arith, long, c.if-walk.false));
+  rows = λ had. had;
   reads = λ told. refl;
   leaves = λ told. refl;
   faults = omega arith;
@@ -38,6 +39,7 @@ headers-preserved g c =
       taken = λ told. taken_on c.args.walk w c.next_header.new.walk (g.D.Disk.reads c.args.disk.now) (g.D.Disk.reads c.headers.disk) c.args.index.now.contents c.headers.index.contents
           c.put_found.new.index.contents h so.moved on (so.reads told) (c.requires.file_length told) (so.taken told) (rw c.in-Some.is at (c.in_ok-header.ensures.header told)) keeps
           c.in_ok-put_found.ensures.rows;
+      rows = λ had. rows_on c.args.walk w c.next_header.new.walk c.headers.index.contents c.put_found.new.index.contents h so.moved on c.requires.number (so.rows had) keeps c.in_ok-put_found.ensures.rows;
       reads = λ told. c.next_header.ensures.reads told ∙ so.reads told;
       leaves = λ told. c.next_header.ensures.leaves told ∙ so.leaves told;
       faults = omega (arith, so.faults, c.next_header.ensures.faults);
