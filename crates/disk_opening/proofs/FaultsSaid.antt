@@ -1,5 +1,5 @@
 -- Which fault was met where one is told.
-use Rattle.std.proofs.Common.{◌≡◌, ℕ, Result, Ok, Err, IsErrAnd, IsErrOf, refl}
+use Rattle.std.proofs.Common.{◌≡◌, ℕ, Result, Ok, Err, IsErrAnd, IsErrOf}
 use Rattle.gated_log.specs.declared.opening.LogFault.{LogFault}
 use Rattle.gated_log.specs.declared.opening.LogFault.TheVariants.{Fault, Header, Cut}
 use Rattle.disk_opening.specs.LogFaults.{channel_log_fault}

@@ -1,6 +1,6 @@
 -- The chunks of a file are left out before or behind the change of form.
 use Rattle.std.proofs.Common.{◌≡◌, ℕ, ◌==◌, not, Bool, true, false, cond, List, [], ◌∷◌, filter, map, refl, ap}
-use Rattle.channel_files.specs.Chunks.{Range, stands_elsewhere}
+use Rattle.channel_files.specs.Chunks.{stands_elsewhere}
 use Rattle.disk_opening.specs.Ranges.{range_in}
 use Rattle.disk_opening.specs.declared.ranges.ChunkRange.{ChunkRange}
 

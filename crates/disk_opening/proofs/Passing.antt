@@ -1,12 +1,10 @@
 -- One more record of a log is passed.
-use Rattle.std.proofs.Common.{◌≡◌, ℕ, ◌+◌, List, [], ◌∷◌, ◌++◌, length, Some, IsErr, ap, sym, ◌∙◌, subst, arith, refl, length-append, append_assoc}
-use Rattle.std.specs.List.{fold}
+use Rattle.std.proofs.Common.{◌≡◌, ℕ, ◌+◌, List, [], ◌∷◌, ◌++◌, Some, ap, sym, ◌∙◌, arith, length-append, append_assoc}
 use Rattle.std.proofs.lemmas.List.Sums.{fold-append}
-use Rattle.tx_entry.specs.Entries.{entry_of}
-use Rattle.transactions_file.specs.Inventory.{State, inventory_of, start, step}
-use Rattle.channel_files.specs.Chunks.{Range, ranges_of, ranges_step}
+use Rattle.transactions_file.specs.Inventory.{State, start, step}
+use Rattle.channel_files.specs.Chunks.{Range, ranges_step}
 use Rattle.disk_opening.specs.LogReading.{HasPassed}
-use Rattle.disk_opening.specs.LogFaults.{HasRightFront, IsEntryFault}
+use Rattle.disk_opening.specs.LogFaults.{HasRightFront}
 
 pub passed_on : (payloads left left' : List (List ℕ)) (count count' : ℕ) (state state' : State) (ranges ranges' : List Range) (payload : List ℕ) → HasPassed payloads left count state ranges
     → left ≡ payload ∷ left' → step (Some state) payload ≡ Some state' → ranges' ≡ ranges_step ranges payload → count' ≡ count + 1 → HasPassed payloads left' count' state' ranges'

@@ -1,5 +1,5 @@
 -- Where chunks stand, as the program keeps it.
-use Rattle.std.specs.Prelude.{ℕ, ◌<◌, ◌^◌}
+use Rattle.std.specs.Prelude.{◌<◌, ◌^◌}
 use Rattle.tx_entry.specs.declared.entry.Entry.{Entry}
 use Rattle.tx_entry.specs.declared.entry.Entry.TheVariants.{Creation, Store, Transfer, Truncation, Deletion}
 use Rattle.channel_files.specs.Chunks.{Range}

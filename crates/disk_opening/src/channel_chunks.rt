@@ -95,10 +95,11 @@ pub fn read_chunks<D: Disk>(
     ensures calm { OnOk result (D.faults disk.new ≡ D.faults disk.old) }
 {
     let mut index = EntityIndex::new(alloc);
-    'ranges: for range in log.ranges.as_slice() {
-        if range.number <= number {
-            take_range(disk, *range, channel, channels, next_id, &mut index)?;
+    'chunks: for range in log.ranges.as_slice() {
+        if range.number > number {
+            continue;
         }
+        take_range(disk, *range, channel, channels, next_id, &mut index)?;
     }
     Ok(index)
 }

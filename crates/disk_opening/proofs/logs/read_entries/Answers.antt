@@ -1,8 +1,7 @@
 -- The records of a log are read one by one.
-use Rattle.std.proofs.Common.{◌≡◌, ◌<◌, ◌+◌, ◌∷◌, ℕ, List, length, take, drop, slice_index, false, Some, Err, ap, subst, sym, ◌∙◌, arith}
+use Rattle.std.proofs.Common.{◌≡◌, ◌<◌, ◌+◌, ◌∷◌, ℕ, List, length, take, drop, slice_index, false, Err, ap, subst, sym, ◌∙◌, arith}
 use Rattle.gated_log.specs.Log.{IsNoLog, is_whole}
 use Rattle.gated_log.specs.Reading.{IsReading, rest_of}
-use Rattle.disk_opening.specs.LogFaults.{IsCutAt, IsEntryFault}
 use Rattle.disk_opening.specs.LogReading.{HasPassed}
 use Rattle.disk_opening.specs.declared.logs.ChannelLogFault.TheVariants as told
 use Rattle.disk_opening.proofs.FaultsSaid.{cut_was, same_fault}

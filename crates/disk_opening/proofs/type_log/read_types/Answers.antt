@@ -3,7 +3,6 @@ use Rattle.std.proofs.Common.{◌≡◌, ◌<◌, ◌+◌, ◌∷◌, [], ℕ, L
 use Rattle.gated_log.specs.Log.{IsNoLog, is_whole}
 use Rattle.gated_log.specs.Reading.{IsReading, rest_of}
 use Rattle.type_desc.specs.declared.desc.TypeDesc.{TypeDesc}
-use Rattle.disk_opening.specs.LogFaults.{IsCutAt}
 use Rattle.disk_opening.specs.TypesReading.{HasPassedTypes}
 use Rattle.disk_opening.specs.declared.type_log.DictionaryFault.TheVariants as told
 use Rattle.disk_opening.proofs.FaultsSaid.{same_fault, types_cut_was}

@@ -1,5 +1,5 @@
 -- What is kept is what stands elsewhere.
-use Rattle.std.proofs.Common.{◌≡◌, ◌∙◌, ap, map, rules}
+use Rattle.std.proofs.Common.{◌∙◌, ap, map, rules}
 use Rattle.std.proofs.lemmas.Fn.{filter_same}
 use Rattle.disk_opening.specs.Ranges.{range_in}
 use Rattle.disk_opening.proofs.LeftOut.{is_elsewhere, left_out}
