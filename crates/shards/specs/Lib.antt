@@ -1,0 +1,5 @@
+pub mod Known
+pub mod Backed
+pub mod Due
+pub mod Kept
+pub mod Plays
