@@ -15,26 +15,23 @@ use Rattle.shards.specs.Known.{Own, Desk, Ended, Known, all_tell}
 
 -- ENDINGS
 
--- a number of a store above 2^63
-abbrev pub IsLate : Option ℕ → Type 0
-IsLate number = IsSomeAnd number (λ n. 2 ^ 63 < n)
+-- why a unit ended so: its count rose since the start; it is full, or the session had a store of a number above 2^63 open; some unit does not tell
+abbrev pub IsCaused : Bool → Bool → ℕ → Told → Ending → Type 0
+IsCaused all late start t Sound = Unit {0}
+IsCaused all late start t Fault = Rose start t.faults
+IsCaused all late start t (Full n) = (t.full ≡ true) ⊎ (late ≡ true)
+IsCaused all late start t (Broken x) = all ≡ false
 
--- why a unit ended so: its count rose since the start; it is full, or a store of a number above 2^63 was open; some unit does not tell
-abbrev pub IsCaused : Bool → ℕ → Told → Option ℕ → Ending → Type 0
-IsCaused all start t number Sound = Unit {0}
-IsCaused all start t number Fault = Rose start t.faults
-IsCaused all start t number (Full n) = (t.full ≡ true) ⊎ IsLate number
-IsCaused all start t number (Broken x) = all ≡ false
-
--- of a unit, whose count was that at the start: it did not fall, and the unit failed only where it rose
-pub record IsExplained (start : ℕ) (t : Told) : Type 0 where
+-- of a unit whose count was that at the start: it did not fall, and the unit failed only where it rose, and ended only for a cause
+pub record IsExplained (all late : Bool) (start : ℕ) (t : Told) : Type 0 where
   pub least : start ≤ t.faults
   pub failed : t.failed ≡ true → Rose start t.faults
+  pub ended : IsCaused all late start t t.ending
 
 -- an ending that a view has is caused
-abbrev pub IsCausedThere : Bool → List ℕ → List Told → Option Ended → Type 0
-IsCausedThere all starts ts None = Unit {0}
-IsCausedThere all starts ts (Some e) = (t : Told) → get_elem? ts e.shard ≡ some t → IsCaused all (slice_index starts e.shard) t e.opened e.ending
+abbrev pub IsCausedThere : Bool → Bool → List ℕ → List Told → Option Ended → Type 0
+IsCausedThere all late starts ts None = Unit {0}
+IsCausedThere all late starts ts (Some e) = (t : Told) → get_elem? ts e.shard ≡ some t → IsCaused all late (slice_index starts e.shard) t e.ending
 
 -- THE CORE
 
@@ -68,21 +65,21 @@ module _ {C : Type 0} (told : C → Told) (backs : Core → List C → Type 0) w
   -- THE SHARDS
 
   -- the unit u of shard k is at home where its word is 0; else its word is 1, and a live view took it
-  pub record IsAtHomeOrOut (start : ℕ) (u : C) (words : List ℕ) (homes : List (maybe.Option (Option C))) (views : List (Known C)) (owner : ℕ → ℕ) (k : ℕ) : Type 0 where
+  pub record IsAtHomeOrOut (all late : Bool) (start : ℕ) (u : C) (words : List ℕ) (homes : List (maybe.Option (Option C))) (views : List (Known C)) (owner : ℕ → ℕ) (k : ℕ) : Type 0 where
     pub home : slice_index words k ≡ 0 → get_elem? homes k ≡ some (some (Some u))
     pub out : slice_index words k ≢ 0 → (slice_index words k ≡ 1) × ((v : Known C) × (get_elem? views (owner k) ≡ some v) × (v.live ≡ true) × (v.taken ≡ Some (k, u)))
-    pub explained : IsExplained start (told u)
+    pub explained : IsExplained all late start (told u)
 
   -- THE VIEWS
 
   -- the live view of seat j: no other seat has its actors; what it took is that unit; where it is actor 0's, it lists what no other actor changes
-  pub record IsSeatOf (units : List C) (starts : List ℕ) (actors : ℕ) (all : Bool) (owner keeper : ℕ → ℕ) (words : List ℕ) (j : ℕ) (v : Known C) : Type 0 where
+  pub record IsSeatOf (units : List C) (starts : List ℕ) (actors : ℕ) (all late : Bool) (owner keeper : ℕ → ℕ) (words : List ℕ) (j : ℕ) (v : Known C) : Type 0 where
     pub keeps : keeper v.own.actor ≡ suc j
     pub there : v.own.actor < actors
     pub joined : (i : ℕ) (o : Own) → get_elem? v.joined i ≡ some o → (keeper o.actor ≡ 0) × (o.actor < actors)
     pub taken : (k : ℕ) (u : C) → v.taken ≡ Some (k, u) → (owner k ≡ j) × (slice_index words k ≡ 1) × (get_elem? units k ≡ some u)
-    pub listed : v.own.actor ≡ 0 → (v.desk.lists ≡ map (λ (u : C). listed (told u)) units) × (v.desk.made ≡ actors)
-    pub ended : IsCausedThere all starts (map told units) v.ended
+    pub listed : v.own.actor ≡ 0 → (v.desk.lists ≡ map (λ (u : C). listed (told u)) units) × (v.desk.made ≡ actors) × (v.desk.late ≡ late)
+    pub ended : IsCausedThere all late starts (map told units) v.ended
     pub tells : v.tells ≡ all
     pub channels : v.channels + 1 ≡ length units
 
@@ -93,11 +90,12 @@ module _ {C : Type 0} (told : C → Told) (backs : Core → List C → Type 0) w
     pub starts : List ℕ
     pub actors : ℕ
     pub all : Bool
+    pub late : Bool
     pub tell : all_tell (map told units) ≡ all
     pub owner : ℕ → ℕ
     pub keeper : ℕ → ℕ
     pub wide : length s.words ≡ length s.homes + 1
     pub deep : length units ≡ length s.homes
-    pub each_shard : (k : ℕ) (u : C) → get_elem? units k ≡ some u → IsAtHomeOrOut (slice_index starts k) u s.words s.homes s.views owner k
-    pub each_seat : (j : ℕ) (v : Known C) → get_elem? s.views j ≡ some v → v.live ≡ true → IsSeatOf units starts actors all owner keeper s.words j v
+    pub each_shard : (k : ℕ) (u : C) → get_elem? units k ≡ some u → IsAtHomeOrOut all late (slice_index starts k) u s.words s.homes s.views owner k
+    pub each_seat : (j : ℕ) (v : Known C) → get_elem? s.views j ≡ some v → v.live ≡ true → IsSeatOf units starts actors all late owner keeper s.words j v
     pub assembles : all ≡ true → Assembles units actors s.views

@@ -1,5 +1,5 @@
 -- What a pass knows: of itself, of the turn that it has, and, where it is the session's, of the stores.
-use Rattle.std.specs.Prelude.{◌≡◌, ℕ, ◌+◌, ◌-◌, ◌&&◌, Bool, true, false, is_some, Option, Some, None, List, [], ◌∷◌, ◌++◌, map, length, set}
+use Rattle.std.specs.Prelude.{◌≡◌, ℕ, ◌+◌, ◌-◌, ◌^◌, ◌||◌, Bool, true, false, is_some, nat_lt, Option, Some, None, List, [], ◌∷◌, ◌++◌, map, length, set}
 use Rattle.std.specs.List.{list_all}
 use Rattle.atomic_table.specs.Seated.{TableId}
 use Rattle.graph_model.specs.Graph.{Graph, put_all}
@@ -23,13 +23,15 @@ pub record Own : Type 0 where
   pub hand : Hand
   pub mine : List Step
 
--- what only actor 0 knows: the start, the book, the pins of each channel, what is listed of each unit, and how many actors there are
+-- what only actor 0 knows: the start, the book, the pins of each channel, what is listed of each unit, how many actors there are, and whether its
+-- hand had a store of a number above 2^63 open behind a turn
 pub record Desk : Type 0 where
   pub start : Core
   pub book : Book
   pub pins : List (List ℕ)
   pub lists : List Listed
   pub made : ℕ
+  pub late : Bool
 
 -- how often a turn was tried, and the shard and what its word read at the last try
 pub record Tries : Type 0 where
@@ -37,11 +39,10 @@ pub record Tries : Type 0 where
   pub shard : ℕ
   pub read : ℕ
 
--- an ending that a turn left behind: of which shard, and the number of the store that was open in the hand
+-- an ending that a turn left behind, and of which shard
 pub record Ended : Type 0 where
   pub shard : ℕ
   pub ending : Ending
-  pub opened : Option ℕ
 
 pub record Known (C : Type 0) : Type 0 where
   -- the pass has not been joined into another
@@ -85,7 +86,7 @@ abbrev pub no_monitor : CoreMonitor
 no_monitor = record { format = 0; cycle = 0; closed = true; begun = []; swept = []; pending = 0; stores_begun = 0; stores_ended = 0 }
 
 abbrev pub no_desk : Desk
-no_desk = record { start = record { channels = []; monitor = no_monitor; hands = []; book = no_book }; book = no_book; pins = []; lists = []; made = 0 }
+no_desk = record { start = record { channels = []; monitor = no_monitor; hands = []; book = no_book }; book = no_book; pins = []; lists = []; made = 0; late = false }
 
 module _ {C : Type 0} where
   -- a new pass of an actor with a new hand
@@ -147,25 +148,30 @@ session_pass ts next_id = record (newcomer (all_tell ts) (length ts - 1) 0) {
     pins = pins_of (start_in ts next_id).channels;
     lists = map listed ts;
     made = 1;
+    late = false;
   };
 }
 
 -- WHAT A STEP MAKES OF IT
 
-abbrev pub number_in : Option OpenStore → Option ℕ
-number_in None = None
-number_in (Some o) = Some o.number
+abbrev pub is_late_in : Option OpenStore → Bool
+is_late_in None = false
+is_late_in (Some o) = nat_lt (2 ^ 63) o.number
+
+-- a store of a number above 2^63 is open in the hand
+abbrev pub is_late : Hand → Bool
+is_late h = is_late_in h.opened
 
 -- one try more, of this shard, whose word read so
 abbrev pub tried_more : Tries → ℕ → ℕ → Tries
 tried_more t k n = record { count = t.count + 1; shard = k; read = n }
 
 -- an ending in place of the one before, where it is not Sound
-abbrev pub ended_then : Option Ended → ℕ → Ending → Hand → Option Ended
-ended_then o k Sound h = o
-ended_then o k Fault h = Some (record { shard = k; ending = Fault; opened = number_in h.opened })
-ended_then o k (Full n) h = Some (record { shard = k; ending = Full n; opened = number_in h.opened })
-ended_then o k (Broken x) h = Some (record { shard = k; ending = Broken x; opened = number_in h.opened })
+abbrev pub ended_then : Option Ended → ℕ → Ending → Option Ended
+ended_then o k Sound = o
+ended_then o k Fault = Some (record { shard = k; ending = Fault })
+ended_then o k (Full n) = Some (record { shard = k; ending = Full n })
+ended_then o k (Broken x) = Some (record { shard = k; ending = Broken x })
 
 abbrev pub book_then : Book → Option Event → Book
 book_then b None = b
@@ -184,13 +190,14 @@ steps_then o k None = o.mine
 steps_then o k (Some e) = o.mine ++ record { actor = o.actor; shard = k; event = e } ∷ []
 
 -- the desk once shard k came back, by an event or by none
-abbrev pub desk_then : Desk → ℕ → Told → Option Event → Desk
-desk_then d k t o = record {
+abbrev pub desk_then : Desk → ℕ → Told → Hand → Option Event → Desk
+desk_then d k t h o = record {
   start = d.start;
   book = book_then d.book o;
   pins = pins_after d.pins k t.part o;
   lists = set d.lists k (listed t);
   made = d.made;
+  late = d.late || is_late h;
 }
 
 module _ {C : Type 0} where
@@ -207,8 +214,8 @@ module _ {C : Type 0} where
   gave v k t h o = record v {
     own = record { actor = v.own.actor; hand = h; mine = steps_then v.own k o };
     taken = None;
-    desk = desk_then v.desk k t o;
-    ended = ended_then v.ended k t.ending h;
+    desk = desk_then v.desk k t h o;
+    ended = ended_then v.ended k t.ending;
   }
 
   -- some tries later

@@ -11,25 +11,25 @@ use Rattle.core_steps.specs.Rows.{Part, part_step}
 use Rattle.core_steps.specs.Steps as core
 use Rattle.core_steps.specs.Steps.{part_at, permits, place_in}
 use Rattle.core_steps.specs.Told.{Told, Listed, GoesOn, listed}
-use Rattle.shards.specs.Known.{Known, number_in, took, refused, gave}
+use Rattle.shards.specs.Known.{Known, is_late, took, refused, gave}
 use Rattle.shards.specs.Backed.{next_id_then}
 use Rattle.shards.specs.Due.{IsEarly, NothingIsDue}
-use Rattle.shards.specs.Kept.{DeskFits, IsLate}
+use Rattle.shards.specs.Kept.{DeskFits}
 
 -- WHAT A TURN MAY DO
 
--- a new ending is right: the unit failed; it is full, or the hand has a store of a number above 2^63 open; some unit does not tell
-abbrev pub IsRightEnding : Bool → Told → Hand → Ending → Type 0
-IsRightEnding all t h Sound = ⊥
-IsRightEnding all t h Fault = t.failed ≡ true
-IsRightEnding all t h (Full n) = (t.full ≡ true) ⊎ IsLate (number_in h.opened)
-IsRightEnding all t h (Broken x) = all ≡ false
-
--- what any turn leaves of what a unit told, with the hand h behind it: so it is also where units do not tell. No worker changes what is listed.
 module _ {C : Type 0} where
+  -- a new ending is right: the unit failed; it is full, or the session's hand has a store of a number above 2^63 open; some unit does not tell
+  abbrev pub IsRightEnding : Known C → Told → Hand → Ending → Type 0
+  IsRightEnding v t h Sound = ⊥
+  IsRightEnding v t h Fault = t.failed ≡ true
+  IsRightEnding v t h (Full n) = (t.full ≡ true) ⊎ ((v.own.actor ≡ 0) × (is_late h ≡ true))
+  IsRightEnding v t h (Broken x) = v.tells ≡ false
+
+  -- what any turn leaves of what a unit told, with the hand h behind it, also where units do not tell. No worker changes what is listed.
   pub record Returns (v : Known C) (t t' : Told) (h : Hand) : Type 0 where
     pub goes_on : GoesOn t t'
-    pub ends : (t'.ending ≡ t.ending) ⊎ IsRightEnding v.tells t' h t'.ending
+    pub ends : (t'.ending ≡ t.ending) ⊎ IsRightEnding v t' h t'.ending
     pub tells : is_some t'.part ≡ is_some t.part
     pub others : v.own.actor ≢ 0 → listed t' ≡ listed t
 

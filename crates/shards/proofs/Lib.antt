@@ -1,0 +1,4 @@
+mod Put
+mod Parts
+mod Cores
+mod Steps
