@@ -156,6 +156,16 @@ module _ {C : Type 0} (told : C → Told) (backs : Core → List C → Type 0) w
       subst (λ (z : Known C). z.tells ≡ true → (e : Event) → got.0 ≡ Some e → Steps z k (told u) (told u') h' e) same got.3,
     )
 
+  -- the event is picked where every unit tells, and none elsewhere
+  chosen : (turns : Option Event → C → C → Type 0) (v : Known C) (k : ℕ) (u u' : C) (h' : Hand) (asks : Event → Type 0) (b : Bool) → v.tells ≡ b
+      → (v.tells ≡ true → (e : Event) × asks e × Makes v k (told u) (told u') h' e × turns (Some e) u u') → (o : Option Event) × Goes told turns v k u u' h' true asks o
+  chosen turns v k u u' h' asks true is ask = let e = ask is in (Some e.0, λ _. (e.0, refl, e.1, e.2, e.3))
+  chosen turns v k u u' h' asks false is ask = (None, λ y. let bad : false ≡ true = sym is ∙ y in cc)
+
+  pub choose : (turns : Option Event → C → C → Type 0) (v : Known C) (k : ℕ) (u u' : C) (h' : Hand) (asks : Event → Type 0)
+      → (v.tells ≡ true → (e : Event) × asks e × Makes v k (told u) (told u') h' e × turns (Some e) u u') → (o : Option Event) × Goes told turns v k u u' h' true asks o
+  choose turns v k u u' h' asks ask = chosen turns v k u u' h' asks v.tells refl ask
+
   pub tries : (slots id : ℕ) (me : M) (k : ℕ) → k < slots → me.0.live ≡ true → me.0.taken ≡ None → Allows Rule slots id me k (λ n. either (eqb n 0) 1 n) (tried told (step slots k 0 1 none) me)
   tries slots id me k near live free s r deep at _ = let x : ℕ = get_or s.words k 0 in let d1 = r.deep in let d2 = r.wide in let inside : k < length s.homes = omega arith in let in_words : k < length s.words = omega arith in
       let unit = some_at r.units k (omega arith) in let u : C = unit.0 in let ok = r.each_shard k u unit.1 in let mine = r.each_seat id me.0 at live in

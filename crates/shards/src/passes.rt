@@ -49,7 +49,7 @@ pub struct Turn<C> {
 }
 
 impl<C> Model for Turn<C> {
-    ghost use Rattle.std.specs.Prelude.{◌≡◌, true, [], ◌∷◌, Some, None};
+    ghost use Rattle.std.specs.Prelude.{◌≡◌, ◌<◌, true, [], ◌∷◌, Some, None};
     ghost use Rattle.shards.specs.Known.{TurnState};
 
     ghost Value = { TurnState C };
@@ -57,7 +57,7 @@ impl<C> Model for Turn<C> {
     ghost view = { λ turn. record { table = turn.seat.table_id; known = turn.seat.me.0; shard = turn.shard; was = turn.was.value } };
 
     ghost invariant = { λ turn. (turn.seat.me.0.live ≡ true) × (turn.seat.me.1 ≡ (turn.shard, None) ∷ []) × (turn.seat.me.0.taken ≡ Some (turn.shard, turn.was.value))
-      × (turn.seat.me.0.own.actor ≡ turn.actor) × (turn.seat.me.0.own.actor ≡ 0 → turn.seat.me.0.desk.made ≡ turn.made) };
+      × (turn.seat.me.0.own.actor ≡ turn.actor) × (turn.seat.me.0.own.actor ≡ 0 → turn.seat.me.0.desk.made ≡ turn.made) × (turn.shard < turn.seat.table_id.slots) };
 }
 
 /// A shard's unit and the actor's hand, with the turn. It goes back by `leave`, `leave_store` or `back` of it.
