@@ -1,5 +1,5 @@
 -- What a turn makes of the core that units and views stand for. Here alone the laws of the core are used.
-use Rattle.std.proofs.Common.{◌≡◌, ◌≢◌, ℕ, suc, ◌+◌, Bool, true, false, List, [], ◌∷◌, ◌++◌, map, length, set, sym, refl, ap, ◌∙◌, subst, arith, Option, Some, None, length-set}
+use Rattle.std.proofs.Common.{◌≡◌, ◌≢◌, ℕ, suc, ◌+◌, Bool, true, false, cond, List, [], ◌∷◌, ◌++◌, map, length, set, sym, refl, ap, ◌∙◌, subst, arith, Option, Some, None, length-set}
 use Rattle.std.specs.Prelude.{is_some, nat_eq, slice_get}
 use Rattle.std.proofs.lemmas.Bool.{eq-eqb, ne_eqb}
 use mathlib.Core.Logic.{dite}
@@ -10,18 +10,23 @@ use Rattle.core_steps.specs.declared.state.Book.{Book}
 use Rattle.core_steps.specs.declared.event.Event.{Event}
 use Rattle.core_steps.specs.declared.event.Event.TheVariants.{Reserve, Return, BeginCycle, BeginMark, MarkSome, Deliver, ReportBegun, CloseCycle, SweepSome, ReportSwept, StoreBegin, StorePart, StoreEnd, Confirm, Pin, Unpin, Tidy}
 use Rattle.core_steps.specs.declared.event.Step.{Step}
+use Rattle.core_steps.specs.declared.state.CoreMonitor.{CoreMonitor}
+use Rattle.graph_model.specs.declared.entity.StoreOp.{StoreOp}
 use Rattle.core_steps.specs.Core.{Core, Hand, held, in_any, pins_of}
-use Rattle.core_steps.specs.Events.{is_worker}
+use Rattle.core_steps.specs.Events.{is_quiet, is_worker}
 use Rattle.core_steps.specs.Good.{IsGood}
-use Rattle.core_steps.specs.Rows.{Part, SameKind, part_step}
+use Rattle.core_steps.specs.Settled.{IsSettledFrom}
+use Rattle.core_steps.specs.Rows.{Part, Channel, Monitor, SameKind, part_step}
 use Rattle.core_steps.specs.Steps.{book_after, changed, part_at, permits, pins_then, place_in, place_of, run, step}
 use Rattle.core_steps.specs.Told.{Told, listed}
 use Rattle.core_steps.proofs.Actors.{run_then}
 use Rattle.core_steps.proofs.GoodSteps.{good_step}
+use Rattle.core_steps.proofs.Quiet.{worker_quiet}
+use Rattle.core_steps.proofs.Settled.{settled_own, settled_step}
 use Rattle.core_steps.proofs.Shards.{get_set_here, get_set_else, kind_stays, length_channels, part_here, part_else, pins_changed, step_is}
 use Rattle.core_steps.proofs.Workers.{book_worker, permits_worker, pins_worker, place_worker}
 use Rattle.shards.specs.Backed.{EventsKeep, RestsKeep, next_id_then}
-use Rattle.shards.specs.Known.{Own, Known, desk_then, gave, pins_with}
+use Rattle.shards.specs.Known.{Own, Known, cycle_in, first_seen, gave, pins_with, since_then}
 use Rattle.shards.specs.Kept.{Assembles, DeskFits, Stands}
 use Rattle.shards.specs.Plays.{Makes, Rests, Steps}
 use Rattle.shards.proofs.Parts.{got_at, last_other, last_own, set_cases}
@@ -61,6 +66,34 @@ next_worker b b' StoreEnd n w = cc
 next_worker b b' Confirm n w = cc
 next_worker b b' (Unpin x) n w = cc
 next_worker b b' Tidy n w = refl
+
+-- what shard q is, where it is the monitor, is the core's
+abbrev IsShown : Part → Core → Type 0
+IsShown (Monitor m) c = c.monitor ≡ m
+IsShown (Channel x) c = Unit {0}
+
+shown : (c : Core) (a k : ℕ) (q : Part) (h : Hand) (e : Event) → IsShown q (changed c a k q h e)
+shown c a k (Monitor m) h e = refl
+shown c a k (Channel x) h e = tt
+
+-- from what the session sees behind its turn the core is settled
+settled_then : (since : Option ℕ) (b : Book) (q : Part) (e : Event) (c c' : Core) (s : Step) → s.event ≡ e → step c s ≡ Some c' → IsGood c → IsGood c' → c'.book ≡ b → IsShown q c'
+    → ((n : ℕ) → since ≡ Some n → IsSettledFrom n c) → (n : ℕ) → since_then since b (Some q) (Some e) ≡ Some n → IsSettledFrom n c'
+settled_then since b q e c c' s same goes good good' book shows was = by (is_quiet e) refl
+  where
+    seen : (o : Option StoreOp) → o ≡ b.opened → (q : Part) → IsShown q c' → (n : ℕ) → cycle_in o (Some q) ≡ Some n → IsSettledFrom n c'
+    seen None none (Monitor m) shows n is = let t : m.cycle ≡ n = cc in
+        subst (λ (z : ℕ). IsSettledFrom z c') (ap (λ (z : CoreMonitor). z.cycle) shows ∙ t) (settled_own c' good' (ap (λ (z : Book). z.opened) book ∙ sym none))
+    seen None none (Channel x) shows n is = cc
+    seen (Some op) none q shows n is = cc
+
+    first : is_quiet e ≡ true → (o : Option ℕ) → o ≡ since → (n : ℕ) → first_seen o (cycle_in b.opened (Some q)) ≡ Some n → IsSettledFrom n c'
+    first quiet (Some m) is n there = settled_step n c s c' (ap is_quiet same ∙ quiet) good (was n (sym is ∙ there)) goes
+    first quiet None is n there = seen b.opened refl q shows n there
+
+    by : (t : Bool) → is_quiet e ≡ t → (n : ℕ) → cond t (first_seen since (cycle_in b.opened (Some q))) None ≡ Some n → IsSettledFrom n c'
+    by true quiet n there = first quiet since refl n there
+    by false quiet n there = cc
 
 module _ {C : Type 0} (told : C → Told) (backs : Core → List C → Type 0) where
   -- the step that a turn makes of the assembled core
@@ -131,12 +164,16 @@ module _ {C : Type 0} (told : C → Told) (backs : Core → List C → Type 0) w
               (λ _ z. let d = r.desk id v at live z in record {
                 start = d.start;
                 book = ap (λ (b : Book). book_after b e) d.book;
+                settled = λ n there. settled_then v.desk.since (book_after v.desk.book e) q e c c' s refl m.goes r.good (good_step c s c' r.good m.goes)
+                    (ap (λ (b : Book). book_after b e) (sym d.book)) (shown c a k q h' e) d.settled n
+                    (ap (λ (p : Option Part). since_then v.desk.since (book_after v.desk.book e) p (Some e)) (sym m.is) ∙ there);
                 pins = ap (λ (p : Option Part). pins_with v.desk.pins k p) m.is ∙ (ap (λ (ps : List (List ℕ)). pins_then ps k q) d.pins ∙ sym (pins_changed c a k e h' q));
               })
               (λ i y n g l z. let d = r.desk i y g l z in let w = m.who (λ p. alone i y n g l (z ∙ sym p)) in record {
                 start = d.start;
                 book = d.book ∙ sym (book_worker c.book e w);
                 pins = d.pins ∙ sym (pins_worker c s c' w m.goes);
+                settled = λ n there. settled_step n c s c' (worker_quiet e w) r.good (d.settled n there) m.goes;
               }) f;
           backed = keep c c' s units u u' r.good m.goes r.backed (got_at units k u there) (r.shards k u there) (m.is ∙ sym now) m.next_id turned;
         }
@@ -177,7 +214,7 @@ module _ {C : Type 0} (told : C → Told) (backs : Core → List C → Type 0) w
       joined = λ j d f. set_cases views id j w d (λ i y. y.live ≡ true → (p : ℕ) (o : Own) → get_elem? y.joined p ≡ some o → Stands r.core r.log o)
           (λ _. r.joined id v at live) (λ i y n g l. r.joined i y g l) f;
       desk = λ j d f. set_cases views id j w d (λ i y. y.live ≡ true → y.own.actor ≡ 0 → DeskFits r.start r.core y.desk)
-          (λ _ z. let d = r.desk id v at live z in record { start = d.start; book = d.book; pins = d.pins }) (λ i y n g l. r.desk i y g l) f;
+          (λ _ z. let d = r.desk id v at live z in record { start = d.start; book = d.book; pins = d.pins; settled = d.settled }) (λ i y n g l. r.desk i y g l) f;
       backed = keep r.core units k u u' r.good r.backed (got_at units k u there) (r.shards k u there) rests.part rests.next_id turned;
     }
 

@@ -13,8 +13,8 @@ use Rattle.core_steps.specs.declared.event.Event.{Event}
 use Rattle.core_steps.specs.Core.{Core, Hand}
 use Rattle.core_steps.specs.Told.{Told, listed}
 use Rattle.shards.specs.Backed.{EventsKeep, RestsKeep}
-use Rattle.shards.specs.Known.{Own, Known, all_tell, gave, is_late, refused, took}
-use Rattle.shards.specs.Kept.{Assembles, IsAtHomeOrOut, IsSeatOf, Kept, Stands}
+use Rattle.shards.specs.Known.{Ended, Own, Known, all_tell, gave, is_late, refused, took}
+use Rattle.shards.specs.Kept.{Assembles, IsAtHomeOrOut, IsCausedThere, IsSeatOf, Kept, Stands}
 use Rattle.shards.specs.Plays.{Glimpse, Goes, Makes, Returns, Steps, left, tried}
 use Rattle.shards.proofs.Put.{put, put_here, put_else}
 use Rattle.shards.proofs.Parts.{Out, ended_kept, ended_stays, explained_after, explained_on, is_below, lists_mine, lists_others, out_stays, set_cases, set_there, some_at, tell_still, told_at}
@@ -88,8 +88,11 @@ module _ {C : Type 0} (told : C → Told) (backs : Core → List C → Type 0) w
               joined = mine.joined;
               taken = λ i x q. cc;
               listed = λ z. let g = mine.listed z in (lists_mine told r.units k u' v.desk.lists g.0, g.1, ap (λ (b : Bool). b || is_late h') g.2 ∙ late_own a r.late h' z);
-              ended = subst (λ (ts : List Told). Rattle.shards.specs.Kept.IsCausedThere r.all late' r.starts ts w.ended) (sym tolds)
+              ended = subst (λ (ts : List Told). IsCausedThere r.all late' r.starts ts w.ended) (sym tolds)
                   (ended_kept r.all r.late late' r.starts (map told r.units) k (told u) (told u') v.ended told_here returns.goes_on more why mine.ended);
+              endings = λ i e f. subst (λ (ts : List Told). IsCausedThere r.all late' r.starts ts (Some e)) (sym tolds)
+                  (ended_stays r.all r.late late' r.starts (map told r.units) k (told u) (told u') (Some e) told_here returns.goes_on more (mine.endings i e f));
+              stop = λ z. ap (get_word (set s.words k 0)) (length-set r.units k u') ∙ (get_or-set_other s.words k (length r.units) 0 0 (λ p. omega arith) ∙ mine.stop z);
               tells = mine.tells;
               channels = mine.channels ∙ sym (length-set r.units k u');
             })
@@ -100,8 +103,11 @@ module _ {C : Type 0} (told : C → Told) (backs : Core → List C → Type 0) w
               taken = λ c x b. let p = q.taken c x b in let other : c ≢ k = λ z. n (sym p.0 ∙ (ap r.owner z ∙ held.0)) in (p.0, get_or-set_other s.words k c 0 0 other ∙ p.1, set_else r.units k c u' other ∙ p.2);
               listed = λ z. let b = q.listed z in let ne : a ≢ 0 = λ p. let k0 = ap r.keeper (z ∙ sym p) in let k1 = q.keeps in let k2 = mine.keeps in n (omega arith) in
                   (b.0 ∙ lists_others told r.units k u u' here (returns.others ne), b.1, b.2 ∙ late_other a r.late h' ne);
-              ended = subst (λ (ts : List Told). Rattle.shards.specs.Kept.IsCausedThere r.all late' r.starts ts y.ended) (sym tolds)
+              ended = subst (λ (ts : List Told). IsCausedThere r.all late' r.starts ts y.ended) (sym tolds)
                   (ended_stays r.all r.late late' r.starts (map told r.units) k (told u) (told u') y.ended told_here returns.goes_on more q.ended);
+              endings = λ p e z. subst (λ (ts : List Told). IsCausedThere r.all late' r.starts ts (Some e)) (sym tolds)
+                  (ended_stays r.all r.late late' r.starts (map told r.units) k (told u) (told u') (Some e) told_here returns.goes_on more (q.endings p e z));
+              stop = λ z. ap (get_word (set s.words k 0)) (length-set r.units k u') ∙ (get_or-set_other s.words k (length r.units) 0 0 (λ p. omega arith) ∙ q.stop z);
               tells = q.tells;
               channels = q.channels ∙ sym (length-set r.units k u');
             }) f;
@@ -217,6 +223,8 @@ module _ {C : Type 0} (told : C → Told) (backs : Core → List C → Type 0) w
                     (put_here r.owner k id, now, unit.1);
                 listed = mine.listed;
                 ended = mine.ended;
+                endings = mine.endings;
+                stop = λ z. get_or-set_other s.words k (length r.units) 1 0 (λ p. omega arith) ∙ mine.stop z;
                 tells = mine.tells;
                 channels = mine.channels;
               })
@@ -228,6 +236,8 @@ module _ {C : Type 0} (told : C → Told) (backs : Core → List C → Type 0) w
                     (put_else r.owner k id c other ∙ b.0, get_or-set_other s.words k c 1 0 other ∙ b.1, b.2);
                 listed = o.listed;
                 ended = o.ended;
+                endings = o.endings;
+                stop = λ z. get_or-set_other s.words k (length r.units) 1 0 (λ p. omega arith) ∙ o.stop z;
                 tells = o.tells;
                 channels = o.channels;
               }) f;
@@ -269,7 +279,7 @@ module _ {C : Type 0} (told : C → Told) (backs : Core → List C → Type 0) w
             explained = o.explained;
           };
           each_seat = λ j d f. set_cases s.views id j w d (λ i y. y.live ≡ true → IsSeatOf told backs r.units r.starts r.actors r.all r.late r.owner r.keeper s.words i y)
-              (λ _. record { keeps = mine.keeps; there = mine.there; joined = mine.joined; taken = mine.taken; listed = mine.listed; ended = mine.ended; tells = mine.tells; channels = mine.channels }) (λ i y n g l. r.each_seat i y g l) f;
+              (λ _. record { keeps = mine.keeps; there = mine.there; joined = mine.joined; taken = mine.taken; listed = mine.listed; ended = mine.ended; endings = mine.endings; stop = mine.stop; tells = mine.tells; channels = mine.channels }) (λ i y n g l. r.each_seat i y g l) f;
           assembles = same w refl refl refl;
         }),
         ((λ hit. absurd (miss hit)), λ _. ((ok.out miss).0, refl)),

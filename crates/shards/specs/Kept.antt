@@ -9,6 +9,7 @@ use Rattle.core_steps.specs.declared.unit.Ending.TheVariants.{Sound, Fault, Full
 use Rattle.core_steps.specs.Core.{Core, Hand, pins_of}
 use Rattle.core_steps.specs.declared.event.Step.{Step}
 use Rattle.core_steps.specs.Good.{IsGood}
+use Rattle.core_steps.specs.Settled.{IsSettledFrom}
 use Rattle.core_steps.specs.Steps.{part_at, run, steps_by}
 use Rattle.core_steps.specs.Told.{Told, Listed, Rose, listed}
 use Rattle.shards.specs.Known.{Own, Desk, Ended, Known, all_tell}
@@ -40,11 +41,12 @@ pub record Stands (c : Core) (log : List Step) (o : Own) : Type 0 where
   pub hand : slice_get c.hands o.actor ≡ Some o.hand
   pub mine : steps_by o.actor log ≡ o.mine
 
--- what actor 0 knows is so
+-- what actor 0 knows is so; from the first cycle that it saw after its last store or change of a pin the core is settled
 pub record DeskFits (from c : Core) (d : Desk) : Type 0 where
   pub start : d.start ≡ from
   pub book : d.book ≡ c.book
   pub pins : d.pins ≡ pins_of c.channels
+  pub settled : (b : ℕ) → d.since ≡ Some b → IsSettledFrom b c
 
 module _ {C : Type 0} (told : C → Told) (backs : Core → List C → Type 0) where
   -- what units and live views stand for
@@ -80,6 +82,8 @@ module _ {C : Type 0} (told : C → Told) (backs : Core → List C → Type 0) w
     pub taken : (k : ℕ) (u : C) → v.taken ≡ Some (k, u) → (owner k ≡ j) × (slice_index words k ≡ 1) × (get_elem? units k ≡ some u)
     pub listed : v.own.actor ≡ 0 → (v.desk.lists ≡ map (λ (u : C). listed (told u)) units) × (v.desk.made ≡ actors) × (v.desk.late ≡ late)
     pub ended : IsCausedThere all late starts (map told units) v.ended
+    pub endings : (i : ℕ) (e : Ended) → get_elem? v.endings i ≡ some e → IsCausedThere all late starts (map told units) (Some e)
+    pub stop : (v.stop.has_set ≡ true) ⊎ (v.stop.has_seen ≡ true) → slice_index words (length units) ≡ 1
     pub tells : v.tells ≡ all
     pub channels : v.channels + 1 ≡ length units
 

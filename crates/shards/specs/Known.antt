@@ -1,5 +1,5 @@
 -- What a pass knows: of itself, of the turn that it has, and, where it is the session's, of the stores.
-use Rattle.std.specs.Prelude.{◌≡◌, ℕ, ◌+◌, ◌-◌, ◌^◌, ◌||◌, Bool, true, false, is_some, nat_lt, Option, Some, None, List, [], ◌∷◌, ◌++◌, map, length, set}
+use Rattle.std.specs.Prelude.{◌≡◌, ℕ, ◌+◌, ◌-◌, ◌^◌, ◌||◌, cond, Bool, true, false, is_some, nat_lt, Option, Some, None, List, [], ◌∷◌, ◌++◌, map, length, set, replicate}
 use Rattle.std.specs.List.{list_all}
 use Rattle.atomic_table.specs.Seated.{TableId}
 use Rattle.graph_model.specs.Graph.{Graph, put_all}
@@ -7,12 +7,16 @@ use Rattle.core_steps.specs.declared.unit.Ending.{Ending}
 use Rattle.core_steps.specs.declared.unit.Ending.TheVariants.{Sound, Fault, Full, Broken}
 use Rattle.core_steps.specs.declared.state.CoreMonitor.{CoreMonitor}
 use Rattle.core_steps.specs.declared.state.OpenStore.{OpenStore}
+use Rattle.core_steps.specs.declared.state.Phase.{Phase}
+use Rattle.core_steps.specs.declared.state.Phase.TheVariants.{Idle, Marking, Sweeping}
 use Rattle.core_steps.specs.Core.{Core, Hand, new_hand, pins_of}
+use Rattle.core_steps.specs.Events.{is_quiet}
+use Rattle.graph_model.specs.declared.entity.StoreOp.{StoreOp}
 use Rattle.core_steps.specs.declared.state.Book.{Book}
 use Rattle.core_steps.specs.declared.event.Event.{Event}
 use Rattle.core_steps.specs.declared.event.Step.{Step}
 use Rattle.core_steps.specs.Rows.{Part, Channel, Monitor}
-use Rattle.core_steps.specs.Steps.{book_after, pins_then, start}
+use Rattle.core_steps.specs.Steps.{book_after, pins_then, start, with_actor}
 use Rattle.core_steps.specs.Told.{Told, Listed, listed}
 
 -- WHAT A PASS KNOWS
@@ -23,8 +27,9 @@ pub record Own : Type 0 where
   pub hand : Hand
   pub mine : List Step
 
--- what only actor 0 knows: the start, the book, the pins of each channel, what is listed of each unit, how many actors there are, and whether its
--- hand had a store of a number above 2^63 open behind a turn
+-- what only actor 0 knows: the start, the book, the pins of each channel, what is listed of each unit, how many actors there are; whether its hand had
+-- a store of a number above 2^63 open behind a turn; the first cycle that it saw after its last store or change of a pin; and, by channel, the last
+-- cycle of which a turn of it left that channel Idle
 pub record Desk : Type 0 where
   pub start : Core
   pub book : Book
@@ -32,6 +37,8 @@ pub record Desk : Type 0 where
   pub lists : List Listed
   pub made : ℕ
   pub late : Bool
+  pub since : Option ℕ
+  pub idle : List (Option ℕ)
 
 -- how often a turn was tried, and the shard and what its word read at the last try
 pub record Tries : Type 0 where
@@ -43,6 +50,11 @@ pub record Tries : Type 0 where
 pub record Ended : Type 0 where
   pub shard : ℕ
   pub ending : Ending
+
+-- whether it set the stop, and whether it has seen it
+pub record Stop : Type 0 where
+  pub has_set : Bool
+  pub has_seen : Bool
 
 pub record Known (C : Type 0) : Type 0 where
   -- the pass has not been joined into another
@@ -57,8 +69,10 @@ pub record Known (C : Type 0) : Type 0 where
   pub taken : Option (ℕ × C)
   pub desk : Desk
   pub tries : Tries
-  -- the last ending that a turn of its own left behind
+  -- the last ending that a turn of its own left behind, and those of the passes that were joined into it
   pub ended : Option Ended
+  pub endings : List Ended
+  pub stop : Stop
 
 -- what the contract of a pass sees: the table that it is of, and what it knows
 pub record PassState (C : Type 0) : Type 0 where
@@ -86,7 +100,7 @@ abbrev pub no_monitor : CoreMonitor
 no_monitor = record { format = 0; cycle = 0; closed = true; begun = []; swept = []; pending = 0; stores_begun = 0; stores_ended = 0 }
 
 abbrev pub no_desk : Desk
-no_desk = record { start = record { channels = []; monitor = no_monitor; hands = []; book = no_book }; book = no_book; pins = []; lists = []; made = 0; late = false }
+no_desk = record { start = record { channels = []; monitor = no_monitor; hands = []; book = no_book }; book = no_book; pins = []; lists = []; made = 0; late = false; since = None; idle = [] }
 
 module _ {C : Type 0} where
   -- a new pass of an actor with a new hand
@@ -101,6 +115,8 @@ module _ {C : Type 0} where
     desk = no_desk;
     tries = record { count = 0; shard = 0; read = 0 };
     ended = None;
+    endings = [];
+    stop = record { has_set = false; has_seen = false };
   }
 
   -- what is left of a pass that was joined
@@ -149,6 +165,8 @@ session_pass ts next_id = record (newcomer (all_tell ts) (length ts - 1) 0) {
     lists = map listed ts;
     made = 1;
     late = false;
+    since = None;
+    idle = replicate (length ts - 1) None;
   };
 }
 
@@ -189,6 +207,33 @@ abbrev pub steps_then : Own → ℕ → Option Event → List Step
 steps_then o k None = o.mine
 steps_then o k (Some e) = o.mine ++ record { actor = o.actor; shard = k; event = e } ∷ []
 
+-- the cycle of a monitor is seen, where no store is open
+abbrev pub cycle_in : Option StoreOp → Option Part → Option ℕ
+cycle_in None (Some (Monitor m)) = Some m.cycle
+cycle_in None (Some (Channel x)) = None
+cycle_in None None = None
+cycle_in (Some op) p = None
+
+abbrev pub first_seen : Option ℕ → Option ℕ → Option ℕ
+first_seen (Some b) seen = Some b
+first_seen None seen = seen
+
+-- the first cycle seen after the last store or change of a pin, behind a turn that left this book and this part
+abbrev pub since_then : Option ℕ → Book → Option Part → Option Event → Option ℕ
+since_then since b p None = since
+since_then since b p (Some e) = cond (is_quiet e) (first_seen since (cycle_in b.opened p)) None
+
+abbrev pub idle_in : List (Option ℕ) → ℕ → Phase → List (Option ℕ)
+idle_in l k (Idle c) = set l k (Some c)
+idle_in l k (Marking c) = l
+idle_in l k (Sweeping c left) = l
+
+-- the cycles of which channels were left Idle, with shard k left as this part
+abbrev pub idle_then : List (Option ℕ) → ℕ → Option Part → List (Option ℕ)
+idle_then l k None = l
+idle_then l k (Some (Channel x)) = idle_in l k x.phase
+idle_then l k (Some (Monitor m)) = l
+
 -- the desk once shard k came back, by an event or by none
 abbrev pub desk_then : Desk → ℕ → Told → Hand → Option Event → Desk
 desk_then d k t h o = record {
@@ -198,7 +243,13 @@ desk_then d k t h o = record {
   lists = set d.lists k (listed t);
   made = d.made;
   late = d.late || is_late h;
+  since = since_then d.since (book_then d.book o) t.part o;
+  idle = idle_then d.idle k t.part;
 }
+
+abbrev pub own_ending : Option Ended → List Ended
+own_ending None = []
+own_ending (Some e) = e ∷ []
 
 module _ {C : Type 0} where
   -- it took the turn of shard k, with this unit
@@ -217,6 +268,22 @@ module _ {C : Type 0} where
     desk = desk_then v.desk k t h o;
     ended = ended_then v.ended k t.ending;
   }
+
+  -- one more pass was split off
+  abbrev pub dealt : Known C → Known C
+  dealt v = record v { desk = record v.desk { start = with_actor v.desk.start; made = v.desk.made + 1 } }
+
+  -- another pass was joined into it
+  abbrev pub joined_with : Known C → Known C → Known C
+  joined_with v w = record v { joined = v.joined ++ w.own ∷ w.joined; endings = v.endings ++ (own_ending w.ended ++ w.endings) }
+
+  -- it set the stop
+  abbrev pub stopping : Known C → Known C
+  stopping v = record v { stop = record v.stop { has_set = true } }
+
+  -- it saw the stop
+  abbrev pub saw_stop : Known C → Known C
+  saw_stop v = record v { stop = record v.stop { has_seen = true } }
 
   -- some tries later
   abbrev pub IsLater : Known C → Known C → Type 0

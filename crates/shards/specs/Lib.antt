@@ -3,3 +3,4 @@ pub mod Backed
 pub mod Due
 pub mod Kept
 pub mod Plays
+pub mod Making
