@@ -1,6 +1,5 @@
 -- What a turn makes of the core that units and views stand for. Here alone the laws of the core are used.
-use Rattle.std.proofs.Common.{◌≡◌, ◌≢◌, ℕ, suc, ◌+◌, Bool, true, false, cond, List, [], ◌∷◌, ◌++◌, map, length, set, sym, refl, ap, ◌∙◌, subst, arith, Option, Some, None, length-set}
-use Rattle.std.specs.Prelude.{is_some, nat_eq, slice_get}
+use Rattle.std.proofs.Common.{◌≡◌, ◌≢◌, ℕ, ◌+◌, Bool, true, false, cond, List, [], ◌∷◌, ◌++◌, length, set, sym, refl, ap, ◌∙◌, subst, arith, Option, Some, None, length-set}
 use Rattle.std.proofs.lemmas.Bool.{eq-eqb, ne_eqb}
 use mathlib.Core.Logic.{dite}
 use mathlib.Core.Option.{some}
@@ -12,13 +11,13 @@ use Rattle.core_steps.specs.declared.event.Event.TheVariants.{Reserve, Return, B
 use Rattle.core_steps.specs.declared.event.Step.{Step}
 use Rattle.core_steps.specs.declared.state.CoreMonitor.{CoreMonitor}
 use Rattle.graph_model.specs.declared.entity.StoreOp.{StoreOp}
-use Rattle.core_steps.specs.Core.{Core, Hand, held, in_any, pins_of}
+use Rattle.core_steps.specs.Core.{Core, Hand, held, in_any}
 use Rattle.core_steps.specs.Events.{is_quiet, is_worker}
 use Rattle.core_steps.specs.Good.{IsGood}
 use Rattle.core_steps.specs.Settled.{IsSettledFrom}
 use Rattle.core_steps.specs.Rows.{Part, Channel, Monitor, SameKind, part_step}
-use Rattle.core_steps.specs.Steps.{book_after, changed, part_at, permits, pins_then, place_in, place_of, run, step}
-use Rattle.core_steps.specs.Told.{Told, listed}
+use Rattle.core_steps.specs.Steps.{book_after, changed, part_at, permits, pins_then, place_in, place_of, step}
+use Rattle.core_steps.specs.Told.{Told}
 use Rattle.core_steps.proofs.Actors.{run_then}
 use Rattle.core_steps.proofs.GoodSteps.{good_step}
 use Rattle.core_steps.proofs.Quiet.{worker_quiet}
@@ -116,11 +115,11 @@ module _ {C : Type 0} (told : C → Told) (backs : Core → List C → Type 0) w
       let count = r.count in let n : v.channels ≡ length c.channels = omega arith in
       let by : Dec (a ≡ 0) = ℕ_discrete a 0 in
       let may : permits c.book (held c.channels) a e ≡ true = dite by
-          (λ z. let d = r.desk id v at live z in (λ i. permits (sym d.book i) (in_any (sym d.pins i)) a e) ∙ makes.may)
-          (λ z. permits_worker c.book v.desk.book (held c.channels) (in_any v.desk.pins) a a e (makes.who z) ∙ makes.may) in
+      (λ z. let d = r.desk id v at live z in (λ i. permits (sym d.book i) (in_any (sym d.pins i)) a e) ∙ makes.may)
+      (λ z. permits_worker c.book v.desk.book (held c.channels) (in_any v.desk.pins) a a e (makes.who z) ∙ makes.may) in
       let place : part_step (place_of c k) makes.part v.own.hand e ≡ part_step (place_in v.channels v.desk.book k) makes.part v.own.hand e = dite by
-          (λ z. let d = r.desk id v at live z in λ i. part_step (place_in (sym n i) (sym d.book i) k) makes.part v.own.hand e)
-          (λ z. (λ i. part_step (place_in (sym n i) c.book k) makes.part v.own.hand e) ∙ place_worker v.channels k c.book v.desk.book makes.part v.own.hand e (makes.who z)) in
+      (λ z. let d = r.desk id v at live z in λ i. part_step (place_in (sym n i) (sym d.book i) k) makes.part v.own.hand e)
+      (λ z. (λ i. part_step (place_in (sym n i) c.book k) makes.part v.own.hand e) ∙ place_worker v.channels k c.book v.desk.book makes.part v.own.hand e (makes.who z)) in
       let made = place ∙ makes.made in record {
         part = makes.part;
         new_part = makes.new_part;

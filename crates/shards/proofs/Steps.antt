@@ -1,21 +1,21 @@
 -- Each step keeps the rule.
-use Rattle.std.proofs.Common.{◌≡◌, ◌≢◌, ◌⊎◌, ℕ, suc, ◌+◌, ◌<◌, ◌≤◌, Bool, true, false, cond, ◌||◌, eqb, List, [], ◌∷◌, map, length, get_or, set, sym, refl, ap, ◌∙◌, subst, ⊎_elim, inl, inr, arith, Option, Some, None, length-set, get_or-set_other, get_or-set_same, eq-eqb, ne_eqb}
-use Rattle.std.specs.Prelude.{is_some, nat_eq}
+use Rattle.std.proofs.Common.{◌≡◌, ◌≢◌, ℕ, ◌+◌, ◌<◌, Bool, true, false, cond, ◌||◌, eqb, List, [], ◌∷◌, map, length, get_or, set, sym, refl, ap, ◌∙◌, subst, arith, Option, Some, None, length-set, get_or-set_other, get_or-set_same, eq-eqb, ne_eqb}
+use Rattle.std.specs.Prelude.{nat_eq}
 use mathlib.Core.Logic.{dite}
-use mathlib.Core.Option.{none, some, some-injective, some-ne-none}
+use mathlib.Core.Option.{none, some, some-injective}
 use native.Mathlib.Decide.{ℕ_discrete}
 use lib.ListN.{get_elem?}
 use lib.Seq.{map-set, set-get_or}
 use prog.Atomic.{either}
-use Rattle.atomic_table.specs.Table.{State, Me, step, Act, keeps, takes, gives, stepped, put_back, rest, Allows}
-use Rattle.atomic_table.proofs.Lists.{at_set, set_here, set_else}
+use Rattle.atomic_table.specs.Table.{State, Me, step, keeps, takes, gives, stepped, put_back, rest, Allows}
+use Rattle.atomic_table.proofs.Lists.{set_here, set_else}
 use Rattle.core_steps.specs.declared.event.Event.{Event}
 use Rattle.core_steps.specs.Core.{Core, Hand}
-use Rattle.core_steps.specs.Told.{Told, listed}
+use Rattle.core_steps.specs.Told.{Told}
 use Rattle.shards.specs.Backed.{EventsKeep, RestsKeep}
-use Rattle.shards.specs.Known.{Ended, Own, Known, all_tell, gave, is_late, refused, took}
-use Rattle.shards.specs.Kept.{Assembles, IsAtHomeOrOut, IsCausedThere, IsSeatOf, Kept, Stands}
-use Rattle.shards.specs.Plays.{Glimpse, Goes, Makes, Returns, Steps, left, tried}
+use Rattle.shards.specs.Known.{Own, Known, gave, is_late, refused, took}
+use Rattle.shards.specs.Kept.{Assembles, IsAtHomeOrOut, IsCausedThere, IsSeatOf, Kept}
+use Rattle.shards.specs.Plays.{Goes, Makes, Returns, Steps, left, tried}
 use Rattle.shards.proofs.Put.{put, put_here, put_else}
 use Rattle.shards.proofs.Parts.{Out, ended_kept, ended_stays, explained_after, explained_on, is_below, lists_mine, lists_others, out_stays, set_cases, set_there, some_at, tell_still, told_at}
 use Rattle.shards.proofs.Cores.{assembles_event, assembles_rest, assembles_view, steps}

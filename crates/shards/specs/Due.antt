@@ -1,5 +1,5 @@
 -- What is due on a unit for a hand, which no worker passes over.
-use Rattle.std.specs.Prelude.{◌≡◌, ◌≢◌, ◌⊎◌, ℕ, ◌+◌, ◌<◌, ◌≤◌, ◌^◌, true, is_some, Option, Some, None, List, [], ◌∷◌, length}
+use Rattle.std.specs.Prelude.{◌≡◌, ◌≢◌, ◌⊎◌, ℕ, ◌+◌, ◌<◌, ◌≤◌, ◌^◌, true, is_some, Option, Some, None, [], ◌∷◌, length}
 use Rattle.graph_model.specs.declared.entity.Entity.{Entity}
 use Rattle.graph_model.specs.Ids.{has}
 use Rattle.graph_model.specs.Graph.{entity_of}

@@ -1,17 +1,17 @@
 -- The rule: at each moment the units at home and in views, the hands and the book are one core, which is good, and which the steps that were made led to.
-use Rattle.std.specs.Prelude.{◌≡◌, ◌≢◌, ◌⊎◌, ℕ, suc, ◌+◌, ◌<◌, ◌≤◌, ◌^◌, Bool, true, false, List, [], ◌∷◌, map, length, slice_get, slice_index, Option, Some, None, IsSomeAnd}
+use Rattle.std.specs.Prelude.{◌≡◌, ◌≢◌, ◌⊎◌, ℕ, suc, ◌+◌, ◌<◌, ◌≤◌, Bool, true, false, List, map, length, slice_get, slice_index, Option, Some, None}
 use mathlib.Core.Option.{some, none}
 use mathlib.Core.Option as maybe
 use lib.ListN.{get_elem?}
 use Rattle.atomic_table.specs.Table.{State}
 use Rattle.core_steps.specs.declared.unit.Ending.{Ending}
 use Rattle.core_steps.specs.declared.unit.Ending.TheVariants.{Sound, Fault, Full, Broken}
-use Rattle.core_steps.specs.Core.{Core, Hand, pins_of}
+use Rattle.core_steps.specs.Core.{Core, pins_of}
 use Rattle.core_steps.specs.declared.event.Step.{Step}
 use Rattle.core_steps.specs.Good.{IsGood}
 use Rattle.core_steps.specs.Settled.{IsSettledFrom}
 use Rattle.core_steps.specs.Steps.{part_at, run, steps_by}
-use Rattle.core_steps.specs.Told.{Told, Listed, Rose, listed}
+use Rattle.core_steps.specs.Told.{Told, Rose, listed}
 use Rattle.shards.specs.Known.{Own, Desk, Ended, Known, all_tell}
 
 -- ENDINGS

@@ -1,5 +1,5 @@
 -- What the units of new shards are.
-use Rattle.std.specs.Prelude.{◌≡◌, ℕ, true, false, List, map, Some, slice_get}
+use Rattle.std.specs.Prelude.{◌≡◌, ℕ, false, List, map, Some, slice_get}
 use Rattle.core_steps.specs.declared.unit.Ending.TheVariants.{Sound}
 use Rattle.core_steps.specs.Core.{Core}
 use Rattle.core_steps.specs.Steps.{IsStartGraph, part_at}

@@ -1,5 +1,5 @@
 -- What a turn may do, and what each step on the table tells.
-use Rattle.std.specs.Prelude.{◌≡◌, ◌≢◌, ◌⊎◌, ℕ, ◌<◌, ◌^◌, Bool, true, false, is_some, List, [], ◌∷◌, Option, Some, None, slice_get}
+use Rattle.std.specs.Prelude.{◌≡◌, ◌≢◌, ◌⊎◌, ℕ, Bool, true, false, is_some, [], ◌∷◌, Option, Some, None, slice_get}
 use Rattle.atomic_table.specs.Table.{Me, Step}
 use Rattle.core_steps.specs.declared.unit.Ending.{Ending}
 use Rattle.core_steps.specs.declared.unit.Ending.TheVariants.{Sound, Fault, Full, Broken}
@@ -10,7 +10,7 @@ use Rattle.core_steps.specs.Good.{IsGood}
 use Rattle.core_steps.specs.Rows.{Part, part_step}
 use Rattle.core_steps.specs.Steps as core
 use Rattle.core_steps.specs.Steps.{part_at, permits, place_in}
-use Rattle.core_steps.specs.Told.{Told, Listed, GoesOn, listed}
+use Rattle.core_steps.specs.Told.{Told, GoesOn, listed}
 use Rattle.shards.specs.Known.{Known, is_late, took, refused, gave}
 use Rattle.shards.specs.Backed.{next_id_then}
 use Rattle.shards.specs.Due.{IsEarly, NothingIsDue}

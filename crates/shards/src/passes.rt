@@ -36,7 +36,7 @@ impl<C> Model for Pass<C> {
     ghost view = { λ pass. record { table = pass.badge.table_id; known = known_in pass.badge.views } };
 
     ghost invariant = { λ pass. (pass.badge.views ≡ known_in pass.badge.views ∷ []) × ((known_in pass.badge.views).live ≡ true) × ((known_in pass.badge.views).taken ≡ None)
-      × ((known_in pass.badge.views).own.hand ≡ pass.hand) × ((known_in pass.badge.views).own.actor ≡ pass.actor) × ((known_in pass.badge.views).own.actor ≡ 0 → (known_in pass.badge.views).desk.made ≡ pass.made) };
+        × ((known_in pass.badge.views).own.hand ≡ pass.hand) × ((known_in pass.badge.views).own.actor ≡ pass.actor) × ((known_in pass.badge.views).own.actor ≡ 0 → (known_in pass.badge.views).desk.made ≡ pass.made) };
 }
 
 /// The turn of a shard.
@@ -57,7 +57,7 @@ impl<C> Model for Turn<C> {
     ghost view = { λ turn. record { table = turn.seat.table_id; known = turn.seat.me.0; shard = turn.shard; was = turn.was.value } };
 
     ghost invariant = { λ turn. (turn.seat.me.0.live ≡ true) × (turn.seat.me.1 ≡ (turn.shard, None) ∷ []) × (turn.seat.me.0.taken ≡ Some (turn.shard, turn.was.value))
-      × (turn.seat.me.0.own.actor ≡ turn.actor) × (turn.seat.me.0.own.actor ≡ 0 → turn.seat.me.0.desk.made ≡ turn.made) × (turn.shard < turn.seat.table_id.slots) };
+        × (turn.seat.me.0.own.actor ≡ turn.actor) × (turn.seat.me.0.own.actor ≡ 0 → turn.seat.me.0.desk.made ≡ turn.made) × (turn.shard < turn.seat.table_id.slots) };
 }
 
 /// A shard's unit and the actor's hand, with the turn. It goes back by `leave`, `leave_store` or `back` of it.

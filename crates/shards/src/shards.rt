@@ -1,4 +1,4 @@
-ghost use Rattle.std.specs.Prelude.{◌≡◌, ◌≤◌, true, MatchResult};
+ghost use Rattle.std.specs.Prelude.{◌≡◌, ◌≤◌, [], true, vec_capacity, MatchResult};
 ghost use Rattle.shards.specs.Known.{IsLater, Known, refused, took};
 ghost use Rattle.shards.specs.Plays.{Glimpse};
 
@@ -10,7 +10,7 @@ use core_hands::Hand;
 use std::alloc::Global;
 use std::marker::Model;
 use std::snapshot::Snapshot;
-use std::sync::Wait;
+use std::sync::{Mutex, Wait};
 
 /// The rule of the shards.
 pub struct Assembled {}
@@ -32,21 +32,29 @@ impl<C: BackedUnit> TableRule<Option<C>, View<C>, Start<C>> for Assembled {
     ghost first = { λ key. session_pass (map C.told key.units.value.items) key.next_id };
 }
 
+/// The vector of the units while they are shards: empty, with room for as many as there may be.
+pub struct Spare<C> {
+    pub(crate) units: Vec<C>,
+    ghost empty: { units.items ≡ [] },
+    ghost room: { 65 ≤ vec_capacity units },
+}
+
 /// The units of a core, channels and then the monitor, as shards: a unit and a turn word each, and one word for the stop.
 pub struct Shards<C: BackedUnit> {
     pub(crate) table: Table<Option<C>, View<C>, Start<C>, Assembled, Global>,
     pub(crate) channels: u32,
+    pub(crate) spare: Mutex<Spare<C>>,
 }
 
 impl<C: BackedUnit> Model for Shards<C> {
-    ghost use Rattle.std.specs.Prelude.{◌≡◌, ◌+◌};
+    ghost use Rattle.std.specs.Prelude.{◌≡◌, ◌≤◌, ◌+◌};
     ghost use Rattle.shards.specs.Known.{ShardsState};
 
     ghost Value = { ShardsState };
 
     ghost view = { λ shards. record { table = shards.table.shared.table_id; channels = shards.channels } };
 
-    ghost invariant = { λ shards. (shards.table.shared.table_id.words ≡ shards.table.shared.table_id.slots + 1) × (shards.table.shared.table_id.slots ≡ shards.channels + 1) };
+    ghost invariant = { λ shards. (shards.table.shared.table_id.words ≡ shards.table.shared.table_id.slots + 1) × (shards.table.shared.table_id.slots ≡ shards.channels + 1) × (shards.channels ≤ 64) };
 }
 
 impl<C: BackedUnit> Shards<C> {
@@ -63,8 +71,8 @@ impl<C: BackedUnit> Shards<C> {
         requires shard { shard ≤ self.now.channels }
         ensures table { MatchResult result (λ held. held.turn.table ≡ self.now.table) (λ busy. busy.pass.table ≡ self.now.table) }
         ensures taken { MatchResult result
-          (λ held. (held.turn.known ≡ took pass.known shard held.unit) × (held.turn.shard ≡ shard) × (held.turn.was ≡ held.unit) × (held.hand ≡ pass.known.own.hand))
-          (λ busy. (busy.pass.known ≡ refused pass.known shard) × (busy.word ≡ 1)) }
+            (λ held. (held.turn.known ≡ took pass.known shard held.unit) × (held.turn.shard ≡ shard) × (held.turn.was ≡ held.unit) × (held.hand ≡ pass.known.own.hand))
+            (λ busy. (busy.pass.known ≡ refused pass.known shard) × (busy.word ≡ 1)) }
         ensures core { MatchResult result (λ held. pass.known.tells ≡ true → Glimpse pass.known shard (C.told held.unit)) (λ busy. Unit {0}) }
     {
         let Pass {

@@ -29,7 +29,7 @@ fn give<C: BackedUnit, G: Given>(
     requires event { (o : Option Event) × Goes C.told C.turns turn.known turn.shard turn.was unit G.hand G.moves G.asks o }
     ensures table { result.table ≡ shards.now.table }
     ensures event { (o : Option Event) × Goes C.told C.turns turn.known turn.shard turn.was unit G.hand G.moves G.asks o × (result.known ≡ gave turn.known turn.shard (C.told unit) G.hand o)
-      × (turn.known.tells ≡ true → (e : Event) → o ≡ Some e → Steps turn.known turn.shard (C.told turn.was) (C.told unit) G.hand e) }
+        × (turn.known.tells ≡ true → (e : Event) → o ≡ Some e → Steps turn.known turn.shard (C.told turn.was) (C.told unit) G.hand e) }
 {
     let Turn {
         mut seat,
@@ -64,8 +64,8 @@ impl<C: BackedUnit> Held<C> {
         requires event { self.turn.known.tells ≡ true → (e : Event) × (kind_of e ≡ kind) × Makes self.turn.known self.turn.shard (C.told self.turn.was) (C.told self.unit) self.hand e × C.turns (Some e) self.turn.was self.unit }
         ensures table { result.table ≡ shards.now.table }
         ensures event { (o : Option Event) × (result.known ≡ gave self.turn.known self.turn.shard (C.told self.unit) self.hand o)
-          × (self.turn.known.tells ≡ true → (e : Event) × (o ≡ Some e) × (kind_of e ≡ kind) × Makes self.turn.known self.turn.shard (C.told self.turn.was) (C.told self.unit) self.hand e
-          × Steps self.turn.known self.turn.shard (C.told self.turn.was) (C.told self.unit) self.hand e) }
+            × (self.turn.known.tells ≡ true → (e : Event) × (o ≡ Some e) × (kind_of e ≡ kind) × Makes self.turn.known self.turn.shard (C.told self.turn.was) (C.told self.unit) self.hand e
+            × Steps self.turn.known self.turn.shard (C.told self.turn.was) (C.told self.unit) self.hand e) }
     {
         let Held { unit, hand, turn } = self;
         give::<C, Brand>(shards, turn, unit, hand, Some(kind), None)

@@ -1,4 +1,4 @@
-use Rattle.std.proofs.Common.{rules, arith, ◌≡◌, true, [], ◌∷◌, Some, None, Option, ℕ, sym, ap, ◌∙◌, subst, ◌<◌, ◌+◌, refl}
+use Rattle.std.proofs.Common.{arith, ◌≡◌, true, [], ◌∷◌, Some, Option, sym, ap, ◌∙◌, subst}
 use Rattle.atomic_table.specs.Table.{rest}
 use Rattle.core_steps.specs.declared.event.Event.{Event}
 use Rattle.shards.specs.Known.{Known, ShardsState, TurnState, gave, known_in}
@@ -27,8 +27,8 @@ abbrev got : (g : given.Over) (c : goal.After-swap g) → (o : Option Event) × 
     × (c.args.turn.known.tells ≡ true → (e : Event) → o ≡ Some e → Steps c.args.turn.known c.args.turn.shard (g.C.CoreUnit.told c.args.turn.was) (g.C.CoreUnit.told c.args.unit) g.G.Given.hand e)
 got g c = let C : Type 0 = g.row.C.Denot in let turn = c.turn.inside in let inv = c.turn.invariant in let now = c.exchange-old.ensures.3 in let told = g.C.CoreUnit.told in let turns = g.C.BackedUnit.turns in
     subst (λ (t : TurnState C). (o : Option Event) × Goes told turns t.known t.shard t.was c.args.unit g.G.Given.hand g.G.Given.moves g.G.Given.asks o
-        × (c.swap.new.seat.me ≡ (gave t.known t.shard (told c.args.unit) g.G.Given.hand o, []))
-        × (t.known.tells ≡ true → (e : Event) → o ≡ Some e → Steps t.known t.shard (told t.was) (told c.args.unit) g.G.Given.hand e)) c.turn.view_is
+    × (c.swap.new.seat.me ≡ (gave t.known t.shard (told c.args.unit) g.G.Given.hand o, []))
+    × (t.known.tells ≡ true → (e : Event) → o ≡ Some e → Steps t.known t.shard (told t.was) (told c.args.unit) g.G.Given.hand e)) c.turn.view_is
     (after_left told g.C.BackedUnit.backs turns g.met.C.BackedUnit.events_keep g.met.C.BackedUnit.rests_keep turn.seat.me.0 c.shards.inside.table.shared.table_id.slots turn.shard c.swap.result turn.was.value c.args.unit
     g.G.Given.hand g.G.Given.moves g.G.Given.asks c.exchange-old.new.seat.me c.swap.new.seat.me (ap (λ m. m.0) now) (ap (λ m. m.1) now ∙ ap (λ cs. (turn.shard, Some c.args.unit) ∷ rest cs) inv.1) inv.2 c.swap.ensures.2)
 

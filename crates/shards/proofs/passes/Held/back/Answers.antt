@@ -1,4 +1,4 @@
-use Rattle.std.proofs.Common.{◌≡◌, None, Option, refl, ap, ◌∙◌}
+use Rattle.std.proofs.Common.{None, Option, refl, ap, ◌∙◌}
 use Rattle.core_steps.specs.declared.event.Event.{Event}
 use Rattle.shards.specs.Known.{gave}
 use Rattle.shards.proofs.passes.Held.back.Goals as goal

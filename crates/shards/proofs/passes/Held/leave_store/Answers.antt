@@ -1,4 +1,4 @@
-use Rattle.std.proofs.Common.{◌≡◌, Option, Some, refl, ap, ◌∙◌, subst}
+use Rattle.std.proofs.Common.{◌≡◌, Some, refl, ap, ◌∙◌, subst}
 use Rattle.core_steps.specs.declared.event.Event.{Event}
 use Rattle.core_steps.specs.declared.event.Event.TheVariants.{StoreBegin}
 use Rattle.shards.specs.Plays.{Steps}
@@ -11,5 +11,9 @@ give-requires-clause-event g c = let me = c.args.self in
     (λ said. let t = c.requires.event said in (StoreBegin c.args.op.now, refl, t.0, t.1))
 
 pub returns-clause-known : goal.returns-clause-known
-returns-clause-known g c = let me = c.args.self in let t = c.give.ensures.event in (t.0, t.2, λ said. let e = t.1 said in
-    (e.1 ∙ ap (λ (x : Event). Some x) e.2, subst (Steps me.turn.known me.turn.shard (g.C.CoreUnit.told me.turn.was) (g.C.CoreUnit.told me.unit) me.hand) e.2 (t.3 said e.0 e.1)))
+returns-clause-known g c = let me = c.args.self in let t = c.give.ensures.event in (
+  t.0,
+  t.2,
+  λ said. let e = t.1 said in
+      (e.1 ∙ ap (λ (x : Event). Some x) e.2, subst (Steps me.turn.known me.turn.shard (g.C.CoreUnit.told me.turn.was) (g.C.CoreUnit.told me.unit) me.hand) e.2 (t.3 said e.0 e.1)),
+)

@@ -1,4 +1,4 @@
-use Rattle.std.proofs.Common.{rules, refl, ◌∙◌}
+use Rattle.std.proofs.Common.{refl}
 use Rattle.shards.proofs.shards.Shards.enter.Goals as goal
 
 pub loop-init : goal.loop-init

@@ -1,4 +1,4 @@
-use Rattle.std.proofs.Common.{◌≡◌, ◌≤◌, true, MatchResult, ℕ, ◌+◌, ◌-◌, ◌*◌, ◌<◌, length}
+use Rattle.std.proofs.Common.{◌≡◌}
 use Rattle.shards.specs.Known.{IsLater}
 use Rattle.shards.proofs.shards.Shards.enter.Given as goal
 

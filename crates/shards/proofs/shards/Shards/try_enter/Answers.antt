@@ -1,4 +1,4 @@
-use Rattle.std.proofs.Common.{rules, arith, ◌≡◌, true, [], ◌∷◌, Some, None, sym, ap, ◌∙◌, subst, ◌<◌, ◌+◌, ℕ}
+use Rattle.std.proofs.Common.{rules, arith, ◌≡◌, ◌∷◌, Some, sym, ap, ◌∙◌}
 use Rattle.atomic_table.specs.Table.{rest}
 use Rattle.shards.specs.Known.{Known, known_in, PassState, ShardsState}
 use Rattle.shards.proofs.Steps.{tries}
