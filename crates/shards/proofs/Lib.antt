@@ -1,0 +1,6 @@
+mod Put
+mod Parts
+mod Cores
+mod Slots
+mod Steps
+mod Whole

@@ -1,0 +1,6 @@
+pub mod Known
+pub mod Backed
+pub mod Due
+pub mod Kept
+pub mod Plays
+pub mod Making

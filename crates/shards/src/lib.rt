@@ -1,0 +1,14 @@
+//! Turns over shards: units that many threads share, each of which is taken for a turn and given back as one event of the core.
+#![tactic(auto)]
+
+mod making;
+mod passes;
+mod plays;
+mod shards;
+mod turns;
+mod unit;
+
+pub use making::{MakeFault, make};
+pub use passes::{Busy, Held, Pass, Turn, View};
+pub use shards::{Assembled, Shards, Start};
+pub use unit::BackedUnit;
