@@ -1,6 +1,6 @@
 //! An entity of the table is read.
 ghost use Rattle.std.specs.Prelude.{◌≡◌, ◌≤◌, ◌⊎◌, ◌↔◌, true, false, IsTrue, length, take, IfOk, IfErr, OnOk, IsErrOf, IsSomeAnd};
-ghost use Rattle.store_io.specs.Disk.{Rose, raised};
+ghost use Rattle.call_counts.specs.Counts.{Rose, raised};
 ghost use Rattle.graph_model.specs.Graph.{entity_of, lists};
 ghost use Rattle.entity_form.specs.Spelling.{entity_bytes};
 ghost use Rattle.channel.specs.Core.{core_of, told_of};

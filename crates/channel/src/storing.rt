@@ -1,7 +1,7 @@
 //! A channel's part of a store: made ready, stored and confirmed.
 ghost use Rattle.std.specs.Prelude.{◌≡◌, ◌≤◌, ◌+◌, ◌^◌, ◌⊎◌, ◌++◌, [], ◌∷◌, ℕ, true, false, None, Some, List, IsTrue, IsErr, IsSome, IfSome, IfErr, IfOk, OnOk, OnErr, IsErrOf, length};
 ghost use Rattle.std.specs.List.{AllByRecursion};
-ghost use Rattle.store_io.specs.Disk.{Rose};
+ghost use Rattle.call_counts.specs.Counts.{Rose};
 ghost use Rattle.store_io.specs.Whole.{EachImage};
 ghost use Rattle.graph_model.specs.Ids.{has, rises};
 ghost use Rattle.graph_model.specs.Graph.{ids};

@@ -1,6 +1,6 @@
 //! A type record is kept.
 ghost use Rattle.std.specs.Prelude.{◌≡◌, ◌≤◌, ◌⊎◌, ◌++◌, [], ◌∷◌, ℕ, true, false, None, Some, IsTrue, length, take, OnOk, OnErr, IfErr, IfSome, IsErrOf};
-ghost use Rattle.store_io.specs.Disk.{Rose};
+ghost use Rattle.call_counts.specs.Counts.{Rose};
 ghost use Rattle.store_io.specs.Whole.{EachImage};
 ghost use Rattle.core_steps.specs.Told.{TriedType};
 ghost use Rattle.channel_files.specs.Heads.{full_record};

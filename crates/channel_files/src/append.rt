@@ -1,6 +1,7 @@
 //! An entry is appended, of whatever kind.
 ghost use Rattle.std.specs.Prelude.{◌≡◌, ◌⊎◌, ◌≤◌, ◌<◌, ◌-◌, ◌+◌, ◌^◌, ℕ, IsTrue, length, OnOk, OnErr, IfErr, IsErrOf, Some};
-ghost use Rattle.store_io.specs.Disk.{OthersStay, Rose};
+ghost use Rattle.store_io.specs.Disk.{OthersStay};
+ghost use Rattle.call_counts.specs.Counts.{Rose};
 ghost use Rattle.store_io.specs.Whole.{EachImage};
 ghost use Rattle.transactions_file.specs.Files.{length_in};
 ghost use Rattle.transactions_file.specs.Inventory.{allowed, after, files_after, last_after, next_id_after, creations};

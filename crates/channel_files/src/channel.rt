@@ -37,7 +37,8 @@ impl<D> Model for ChannelFiles<D> {
 
 impl<D: Disk> ChannelFiles<D> {
     ghost use Rattle.std.specs.Prelude.{◌≡◌, ◌≢◌, ◌⊎◌, ◌≤◌, ◌<◌, ◌-◌, ◌+◌, ◌^◌, ◌++◌, [], ◌∷◌, true, ℕ, List, IsTrue, IsErr, length, take, drop, OnOk, OnErr, IfOk, IfErr, IfSome, IsErrOf, Some, None};
-    ghost use Rattle.store_io.specs.Disk.{Only, OthersStay, Rose, raised};
+    ghost use Rattle.store_io.specs.Disk.{Only, OthersStay};
+    ghost use Rattle.call_counts.specs.Counts.{Rose, raised};
     ghost use Rattle.store_io.specs.Whole.{EachImage, IsClean};
     ghost use Rattle.gated_log.specs.Log.{payloads_of, IsLogOf, IsBeforeOrAfter, Each};
     ghost use Rattle.gated_log.specs.Of.{IsOf};

@@ -1,6 +1,6 @@
 //! A store of a channel.
 ghost use Rattle.std.specs.Prelude.{◌≡◌, ◌≢◌, ◌⊎◌, ◌≤◌, ◌<◌, ◌-◌, ◌+◌, ◌^◌, ◌++◌, [], ◌∷◌, true, false, ℕ, IsTrue, IsErr, length, OnOk, OnErr, IfOk, IfErr, IfSome, IsErrOf, None};
-ghost use Rattle.store_io.specs.Disk.{Rose};
+ghost use Rattle.call_counts.specs.Counts.{Rose};
 ghost use Rattle.store_io.specs.Whole.{EachImage};
 ghost use Rattle.tx_entry.specs.declared.entry.Entry.TheVariants.{Store};
 ghost use Rattle.transactions_file.specs.Files.{is_live, length_in};

@@ -1,6 +1,6 @@
 //! The file behind which chunks are written.
 ghost use Rattle.std.specs.Prelude.{◌≡◌, ◌≤◌, ◌<◌, ◌-◌, ◌+◌, ◌^◌, ℕ, not, true, false, if◌then◌else◌, IsTrue, length, OnOk, OnErr, IfErr, IfSome, IsErrOf, None};
-ghost use Rattle.store_io.specs.Disk.{Rose};
+ghost use Rattle.call_counts.specs.Counts.{Rose};
 ghost use Rattle.store_io.specs.Whole.{EachImage};
 ghost use Rattle.transactions_file.specs.Files.{length_of, is_live};
 ghost use Rattle.transactions_file.specs.Inventory.{after};

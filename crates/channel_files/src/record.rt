@@ -1,6 +1,7 @@
 //! A record of another log on the channel's disk.
 ghost use Rattle.std.specs.Prelude.{◌≡◌, ◌≤◌, ◌<◌, ◌+◌, ◌-◌, ◌^◌, ◌++◌, [], ◌∷◌, IsTrue, length, OnOk, OnErr, IfErr, IfSome, IsErrOf, None};
-ghost use Rattle.store_io.specs.Disk.{Only, OthersStay, Rose};
+ghost use Rattle.store_io.specs.Disk.{Only, OthersStay};
+ghost use Rattle.call_counts.specs.Counts.{Rose};
 ghost use Rattle.gated_log.specs.Log.{payloads_of, IsLogOf, IsBeforeOrAfter, Each};
 ghost use Rattle.gated_log.specs.Of.{IsOf};
 ghost use Rattle.channel_files.specs.Heads.{full_record};

@@ -1,6 +1,6 @@
 //! A store's chunk and its entry.
 ghost use Rattle.std.specs.Prelude.{◌≡◌, ◌≢◌, ◌⊎◌, ◌≤◌, ◌<◌, ◌-◌, ◌+◌, ◌^◌, ◌++◌, [], ◌∷◌, true, ℕ, IsTrue, length, OnOk, OnErr, IfOk, IfErr, IfSome, IsErrOf, None};
-ghost use Rattle.store_io.specs.Disk.{Rose};
+ghost use Rattle.call_counts.specs.Counts.{Rose};
 ghost use Rattle.store_io.specs.Whole.{EachImage};
 ghost use Rattle.transactions_file.specs.Files.{is_live};
 ghost use Rattle.transactions_file.specs.Inventory.{after, allowed};

@@ -1,6 +1,6 @@
 //! The last store is dropped.
 ghost use Rattle.std.specs.Prelude.{◌≡◌, ◌⊎◌, ◌≤◌, ◌<◌, ◌-◌, ◌+◌, ◌^◌, ℕ, true, IsTrue, length, take, OnOk, OnErr, IfErr, IfSome, IsErrOf, None};
-ghost use Rattle.store_io.specs.Disk.{Rose};
+ghost use Rattle.call_counts.specs.Counts.{Rose};
 ghost use Rattle.store_io.specs.Whole.{EachImage};
 ghost use Rattle.tx_entry.specs.declared.entry.Entry.TheVariants.{Truncation};
 ghost use Rattle.transactions_file.specs.Files.{is_live};

@@ -1,6 +1,7 @@
 //! Bytes are written behind what the inventory knows of a file.
 ghost use Rattle.std.specs.Prelude.{◌≡◌, ◌≤◌, IsTrue, length, OnOk, OnErr};
-ghost use Rattle.store_io.specs.Disk.{Holds, Only, OthersStay, Rose};
+ghost use Rattle.store_io.specs.Disk.{Holds, Only, OthersStay};
+ghost use Rattle.call_counts.specs.Counts.{Rose};
 ghost use Rattle.store_io.specs.Whole.{EachImage};
 ghost use Rattle.transactions_file.specs.Files.{length_in};
 ghost use Rattle.channel_files.specs.Chunks.{content_of};

@@ -2,10 +2,10 @@ ghost use Rattle.std.specs.Prelude.{◌≡◌, ◌≤◌, [], length, IfOk};
 ghost use Rattle.core_steps.specs.Good.{IsGood};
 ghost use Rattle.core_steps.specs.Steps.{IsStartGraph};
 
+use core_machine::{RunFault, check_run, start, step};
 use core_steps::{
-    CoreChannel, CoreState, Event, RunFault, Step, check_run, cores_stay_good, cores_stay_settled,
-    good_cores_tell, quiet_cycles_leave_the_reached, runs_go_on, start, step,
-    steps_change_one_shard, workers_leave_stores,
+    CoreChannel, CoreState, Event, Step, cores_stay_good, cores_stay_settled, good_cores_tell,
+    quiet_cycles_leave_the_reached, runs_go_on, steps_change_one_shard, workers_leave_stores,
 };
 use graph_model::{Bytes, Entity, Graph, Ids, NoMemory, Record, Records, StoreOp};
 use std::alloc::Global;

@@ -1,5 +1,4 @@
 pub mod Lists
-pub mod IdLists
 pub mod Glue
 pub mod Moves
 pub mod Marked
@@ -25,6 +24,4 @@ pub mod Actors
 pub mod Workers
 pub mod Readers
 pub mod Ordered
-pub mod StepCalls
-pub mod Refused
 pub mod Rows

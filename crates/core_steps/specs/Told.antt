@@ -1,5 +1,6 @@
 -- What a unit, which is a channel or the monitor with all that belongs to it, tells of itself.
-use Rattle.std.specs.Prelude.{◌≡◌, ℕ, ◌+◌, ◌-◌, ◌^◌, ◌≤◌, min, Bool, true, false, List, Option}
+use Rattle.std.specs.Prelude.{◌≡◌, ℕ, ◌≤◌, Bool, true, false, List, Option}
+use Rattle.call_counts.specs.Counts.{Rose}
 use Rattle.graph_model.specs.declared.entity.Record.{Record}
 use Rattle.core_steps.specs.declared.unit.Ending.{Ending}
 use Rattle.core_steps.specs.Rows.{Part}
@@ -36,10 +37,6 @@ pub record Listed : Type 0 where
 
 abbrev pub listed : Told → Listed
 listed t = record { prepared = t.prepared; types = t.types; tried = t.tried }
-
--- a count of faults rose, or stands at its end
-abbrev pub Rose : ℕ → ℕ → Type 0
-Rose before now = min (before + 1) (2 ^ 64 - 1) ≤ now
 
 -- what any call does to a unit, whether or not it tells: its count does not fall, what is full stays full, and it fails only where the count rose
 pub record GoesOn (old new : Told) : Type 0 where

@@ -99,7 +99,7 @@ impl Channels {
     }
 
     /// Puts a value in the stead of the one at the place. Past the last nothing changes.
-    pub(crate) fn set(&mut self, place: usize, value: CoreChannel)
+    pub fn set(&mut self, place: usize, value: CoreChannel)
         ensures { self.new ≡ set self.old place value }
     {
         if let Some(item) = self.items.get_mut(place) {
@@ -108,7 +108,7 @@ impl Channels {
     }
 
     /// What the channels are allocated with.
-    pub(crate) fn allocator(&self) -> Global {
+    pub fn allocator(&self) -> Global {
         *self.items.allocator()
     }
 }
@@ -149,7 +149,7 @@ impl Hands {
     }
 
     /// Puts a value in the stead of the one at the place. Past the last nothing changes.
-    pub(crate) fn set(&mut self, place: usize, value: HandState)
+    pub fn set(&mut self, place: usize, value: HandState)
         ensures { self.new ≡ set self.old place value }
     {
         if let Some(item) = self.items.get_mut(place) {
@@ -186,14 +186,14 @@ impl Stores {
         self.items.as_slice()
     }
 
-    pub(crate) fn as_vec(&self) -> &Vec<StoreOp>
+    pub fn as_vec(&self) -> &Vec<StoreOp>
         ensures { result.now.items ≡ self.now }
     {
         &self.items
     }
 
     /// Puts a store behind the last. With no memory nothing changes.
-    pub(crate) fn push(&mut self, op: StoreOp) -> Result<(), NoMemory>
+    pub fn push(&mut self, op: StoreOp) -> Result<(), NoMemory>
         ensures ok { OnOk result (self.new ≡ self.old ++ op ∷ []) }
         ensures err { OnErr result (self.new ≡ self.old) }
     {

@@ -1,6 +1,7 @@
 //! A chunk is written.
 ghost use Rattle.std.specs.Prelude.{◌≡◌, ◌≤◌, IsTrue, length, OnOk, OnErr};
-ghost use Rattle.store_io.specs.Disk.{Follows, Holds, Only, OthersStay, Rose, Torn};
+ghost use Rattle.store_io.specs.Disk.{Follows, Holds, Only, OthersStay, Torn};
+ghost use Rattle.call_counts.specs.Counts.{Rose};
 
 use store_io::{Disk, DiskFailed};
 

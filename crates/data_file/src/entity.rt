@@ -1,6 +1,6 @@
 //! An entity is read where it stands.
 ghost use Rattle.std.specs.Prelude.{◌≡◌, ◌≤◌, ◌+◌, IsTrue, length, take, drop, OnOk, OnErr, IsErrOf};
-ghost use Rattle.store_io.specs.Disk.{Rose, raised};
+ghost use Rattle.call_counts.specs.Counts.{Rose, raised};
 ghost use Rattle.data_file.specs.Headers.{BeginsWith, IsHeaderAt};
 
 use entity_form::{HEADER_BYTES, Header, header_at};

@@ -1,6 +1,6 @@
 //! A chunk is walked from header to header, without reading the bodies.
 ghost use Rattle.std.specs.Prelude.{◌≡◌, ◌≤◌, ◌<◌, ◌+◌, ◌^◌, ◌↔◌, ℕ, Ok, None, IsTrue, length, OnErr, IfOk, IfSome, IfNone, IsErrOf, OnOk};
-ghost use Rattle.store_io.specs.Disk.{Rose, raised};
+ghost use Rattle.call_counts.specs.Counts.{Rose, raised};
 ghost use Rattle.data_file.specs.Headers.{IsHeaderAt};
 ghost use Rattle.data_file.specs.Rule.{is_own_id, keeps_rule, IsEntityAt};
 

@@ -1,7 +1,7 @@
 //! All chunks of a channel up to a store are taken into one index.
 
 ghost use Rattle.std.specs.Prelude.{◌≡◌, ◌≤◌, ◌++◌, ℕ, List, IsTrue, IfOk, OnOk, IsErrOf};
-ghost use Rattle.store_io.specs.Disk.{Rose};
+ghost use Rattle.call_counts.specs.Counts.{Rose};
 ghost use Rattle.gated_log.specs.Log.{payloads_of};
 ghost use Rattle.channel_files.specs.Chunks.{chunk_at, ranges_of};
 ghost use Rattle.channel_files.specs.Table.{Occurrence, occurrences_of};

@@ -1,7 +1,7 @@
 //! The chunks of a channel's data files are taken into an index.
 ghost use Rattle.std.specs.Prelude.{◌≡◌, ◌≤◌, ◌+◌, ◌<◌, ◌++◌, ◌^◌, ℕ, List, IsTrue, length, OnOk, IsErrOf};
 ghost use Rattle.std.specs.FinMap as finite;
-ghost use Rattle.store_io.specs.Disk.{Rose};
+ghost use Rattle.call_counts.specs.Counts.{Rose};
 ghost use Rattle.channel_files.specs.Chunks.{chunk_at};
 ghost use Rattle.channel_files.specs.Table.{Occurrence, occurrences_of};
 ghost use Rattle.channel.specs.Rows.{opened_row};

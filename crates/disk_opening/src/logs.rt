@@ -1,7 +1,7 @@
 //! The transactions log of a channel is read.
 
 ghost use Rattle.std.specs.Prelude.{◌≡◌, ◌≢◌, ◌≤◌, ◌<◌, ◌⊎◌, ◌↔◌, ℕ, take, List, IsTrue, false, length, IfOk, OnOk, IsErr, IsErrOf, Err, Ok, Some};
-ghost use Rattle.store_io.specs.Disk.{Rose};
+ghost use Rattle.call_counts.specs.Counts.{Rose};
 ghost use Rattle.gated_log.specs.Log.{payloads_of};
 ghost use Rattle.gated_log.specs.Reading.{IsReading, rest_of};
 ghost use Rattle.tx_entry.specs.Entries.{entry_of};

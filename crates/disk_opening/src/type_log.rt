@@ -1,7 +1,7 @@
 //! The dictionary log is read, which stands on the disk of channel 0.
 
 ghost use Rattle.std.specs.Prelude.{◌≡◌, ◌≢◌, ◌≤◌, ◌<◌, ◌⊎◌, ℕ, take, List, IsTrue, length, IfOk, OnOk, IsErrOf};
-ghost use Rattle.store_io.specs.Disk.{Rose};
+ghost use Rattle.call_counts.specs.Counts.{Rose};
 ghost use Rattle.gated_log.specs.Log.{payloads_of};
 ghost use Rattle.gated_log.specs.Reading.{IsReading, rest_of};
 ghost use Rattle.type_desc.specs.declared.desc.TypeDesc.{TypeDesc};

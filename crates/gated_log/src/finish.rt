@@ -1,6 +1,7 @@
 // The end of an opening.
 ghost use Rattle.std.specs.Prelude.{◌≡◌, ◌<◌, ◌≤◌, ◌+◌, ◌++◌, [], ◌∷◌, length, IsTrue, List, ℕ, OnOk, OnErr, IfOk, IsOkAnd};
-ghost use Rattle.store_io.specs.Disk.{Only, OthersStay, Rose};
+ghost use Rattle.store_io.specs.Disk.{Only, OthersStay};
+ghost use Rattle.call_counts.specs.Counts.{Rose};
 ghost use Rattle.gated_log.specs.Log.{payloads_of, Each};
 ghost use Rattle.gated_log.specs.Of.{IsOf};
 ghost use Rattle.gated_log.specs.Reading.{IsReading};

@@ -1,6 +1,7 @@
 // A gate, read and opened.
 ghost use Rattle.std.specs.Prelude.{◌≡◌, ◌≤◌, ◌<◌, [], ◌∷◌, ℕ, List, IsTrue, length, slice_index, IfOk, OnOk, OnErr};
-ghost use Rattle.store_io.specs.Disk.{Holds, Torn, Follows, Only, OthersStay, Rose};
+ghost use Rattle.store_io.specs.Disk.{Holds, Torn, Follows, Only, OthersStay};
+ghost use Rattle.call_counts.specs.Counts.{Rose};
 
 use store_io::{Disk, DiskFailed};
 

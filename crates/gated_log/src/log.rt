@@ -49,7 +49,8 @@ impl Model for GatedLog {
 
 impl GatedLog {
     ghost use Rattle.std.specs.Prelude.{◌≡◌, ◌<◌, ◌≤◌, ◌+◌, ◌-◌, ◌^◌, ◌++◌, ◌⊎◌, [], ◌∷◌, ℕ, List, IsTrue, length, OnOk, OnErr, IfErr, IsErrOf};
-    ghost use Rattle.store_io.specs.Disk.{Only, OthersStay, Rose};
+    ghost use Rattle.store_io.specs.Disk.{Only, OthersStay};
+    ghost use Rattle.call_counts.specs.Counts.{Rose};
     ghost use Rattle.gated_log.specs.Log.{payloads_of, IsLogOf, IsBeforeOrAfter, Each};
     ghost use Rattle.gated_log.specs.Of.{IsOf};
 

@@ -53,7 +53,8 @@ impl Model for Opening {
 
 impl Opening {
     ghost use Rattle.std.specs.Prelude.{◌≡◌, ◌≢◌, ◌≤◌, ◌<◌, ◌+◌, ◌-◌, ◌++◌, [], ◌∷◌, ℕ, List, Bool, true, false, IsTrue, length, take, drop, slice_index, OnOk, OnErr, IfOk, IfErr, IfSome, IfNone, IsErrOf};
-    ghost use Rattle.store_io.specs.Disk.{Only, OthersStay, Rose};
+    ghost use Rattle.store_io.specs.Disk.{Only, OthersStay};
+    ghost use Rattle.call_counts.specs.Counts.{Rose};
     ghost use Rattle.gated_log.specs.Log.{is_whole, payloads_of, IsLogOf, IsNoLog, Each};
     ghost use Rattle.gated_log.specs.Of.{IsOf};
     ghost use Rattle.gated_log.specs.Reading.{IsReading, rest_of};

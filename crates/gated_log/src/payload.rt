@@ -1,6 +1,6 @@
 // A payload that is read.
 ghost use Rattle.std.specs.Prelude.{◌≡◌, ◌≤◌, ◌<◌, ◌+◌, ◌-◌, ◌++◌, ℕ, IsTrue, false, length, take, drop, slice_index, IfOk, IfSome, IfNone, OnErr, OnOk};
-ghost use Rattle.store_io.specs.Disk.{Rose};
+ghost use Rattle.call_counts.specs.Counts.{Rose};
 ghost use Rattle.gated_log.specs.Log.{is_whole, sized};
 
 use crate::size::size_at;

@@ -1,6 +1,7 @@
 // One record, written behind the last gate.
 ghost use Rattle.std.specs.Prelude.{◌≡◌, ◌≤◌, ◌+◌, ◌^◌, ◌++◌, [], ◌∷◌, ℕ, List, IsTrue, length, OnOk, OnErr};
-ghost use Rattle.store_io.specs.Disk.{Follows, Only, OthersStay, Rose};
+ghost use Rattle.store_io.specs.Disk.{Follows, Only, OthersStay};
+ghost use Rattle.call_counts.specs.Counts.{Rose};
 ghost use Rattle.gated_log.specs.Log.{payloads_of, length_of, record_of, IsLogOf, IsBeforeOrAfter, Each, Keeps, StandsAt};
 
 use crate::gate::{CLOSED, open_gate};

@@ -1,6 +1,6 @@
 // The begin of an opening.
 ghost use Rattle.std.specs.Prelude.{◌≡◌, ◌≢◌, ◌<◌, ◌≤◌, ◌+◌, ℕ, List, IsTrue, length, take, IfOk, IsErrOf, OnOk};
-ghost use Rattle.store_io.specs.Disk.{Rose};
+ghost use Rattle.call_counts.specs.Counts.{Rose};
 ghost use Rattle.gated_log.specs.Log.{payloads_of};
 ghost use Rattle.gated_log.specs.Reading.{IsReading, rest_of};
 

@@ -1,7 +1,8 @@
 //! Both logs of a disk are finished.
 
 ghost use Rattle.std.specs.Prelude.{◌≡◌, ◌≤◌, ℕ, IsTrue, IfOk, OnOk, OnErr};
-ghost use Rattle.store_io.specs.Disk.{Only, OthersStay, Rose};
+ghost use Rattle.store_io.specs.Disk.{Only, OthersStay};
+ghost use Rattle.call_counts.specs.Counts.{Rose};
 ghost use Rattle.gated_log.specs.Log.{payloads_of, Each};
 ghost use Rattle.gated_log.specs.Reading.{IsReading};
 ghost use Rattle.plain_storage.specs.Finishing.{AreSameLogs, IsSameLog};

@@ -1,7 +1,8 @@
 //! A type is kept in the log of types.
 
 ghost use Rattle.std.specs.Prelude.{◌≡◌, ◌≤◌, ◌<◌, ◌-◌, ◌^◌, ◌++◌, [], ◌∷◌, List, IsTrue, length, OnOk, OnErr, IfErr, IsErrOf, ◌⊎◌};
-ghost use Rattle.store_io.specs.Disk.{Only, OthersStay, Rose};
+ghost use Rattle.store_io.specs.Disk.{Only, OthersStay};
+ghost use Rattle.call_counts.specs.Counts.{Rose};
 ghost use Rattle.gated_log.specs.Log.{Each};
 ghost use Rattle.type_desc.specs.declared.desc.TypeDesc.{TypeDesc};
 ghost use Rattle.type_dictionary.specs.Records.{IsNextRecord};

@@ -1,7 +1,7 @@
 //! What a session asks is served.
 
 ghost use Rattle.std.specs.Prelude.{◌≡◌, ◌≤◌, ◌<◌, ◌+◌, ◌++◌, [], ◌∷◌, true, ℕ, List, IsTrue, length, IfOk, OnOk, IfErr, IsErrOf};
-ghost use Rattle.store_io.specs.Disk.{Rose};
+ghost use Rattle.call_counts.specs.Counts.{Rose};
 ghost use Rattle.graph_model.specs.Graph.{lists};
 ghost use Rattle.graph_model.specs.Served.{Collects, Holds, KeepsType, Looks, Releases, Served, Stores};
 ghost use Rattle.graph_model.specs.declared.ask.StorageFault.{StorageFault as AnyFault};

@@ -1,7 +1,8 @@
 //! A store is kept in the log of stores.
 
 ghost use Rattle.std.specs.Prelude.{◌≡◌, ◌≤◌, ◌<◌, ◌-◌, ◌+◌, ◌^◌, ◌++◌, [], ◌∷◌, ℕ, List, IsTrue, length, OnOk, IsErrOf, ◌⊎◌};
-ghost use Rattle.store_io.specs.Disk.{Only, OthersStay, Rose};
+ghost use Rattle.store_io.specs.Disk.{Only, OthersStay};
+ghost use Rattle.call_counts.specs.Counts.{Rose};
 ghost use Rattle.gated_log.specs.Log.{Each};
 ghost use Rattle.graph_model.specs.declared.ask.StorageFault.{StorageFault as AnyFault};
 ghost use Rattle.graph_model.specs.declared.entity.StoreOp.{StoreOp as AnyStore};

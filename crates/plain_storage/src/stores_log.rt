@@ -1,7 +1,7 @@
 //! The log of stores on a disk.
 
 ghost use Rattle.std.specs.Prelude.{◌≡◌, ◌≤◌, ◌<◌, [], ℕ, List, IsTrue, length, IfOk, OnOk, IsErrOf, ◌⊎◌};
-ghost use Rattle.store_io.specs.Disk.{Rose};
+ghost use Rattle.call_counts.specs.Counts.{Rose};
 ghost use Rattle.graph_model.specs.Graph.{Graph};
 ghost use Rattle.gated_log.specs.Log.{payloads_of, IsNoLog};
 ghost use Rattle.gated_log.specs.Reading.{IsReading, rest_of};

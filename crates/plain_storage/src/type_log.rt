@@ -2,7 +2,7 @@
 
 ghost use Rattle.std.specs.Prelude.{◌≡◌, ◌≤◌, ◌<◌, ◌++◌, [], ◌∷◌, ℕ, List, IsTrue, length, IfOk, OnOk, IsErrOf, ◌⊎◌};
 ghost use Rattle.std.specs.List.{AllByRecursion};
-ghost use Rattle.store_io.specs.Disk.{Rose};
+ghost use Rattle.call_counts.specs.Counts.{Rose};
 ghost use Rattle.gated_log.specs.Log.{payloads_of, IsNoLog};
 ghost use Rattle.gated_log.specs.Reading.{IsReading, rest_of};
 ghost use Rattle.type_desc.specs.declared.desc.TypeDesc.{TypeDesc};

@@ -12,7 +12,8 @@ use Rattle.core_steps.specs.declared.unit.Ending.{Ending}
 use Rattle.core_steps.specs.declared.unit.Ending.TheVariants.{Sound, Fault, Full, Broken}
 use Rattle.core_steps.specs.Core.{Hand}
 use Rattle.core_steps.specs.Steps.{steps_by}
-use Rattle.core_steps.specs.Told.{Told, Listed, GoesOn, Rose, listed}
+use Rattle.core_steps.specs.Told.{Told, Listed, GoesOn, listed}
+use Rattle.call_counts.specs.Counts.{Rose}
 use Rattle.shards.specs.Known.{Known, Ended, all_tell, ended_then, is_late}
 use Rattle.shards.specs.Kept.{IsCaused, IsCausedThere, IsExplained}
 use Rattle.shards.specs.Plays.{IsRightEnding, Returns}

@@ -11,7 +11,8 @@ use Rattle.core_steps.specs.declared.event.Step.{Step}
 use Rattle.core_steps.specs.Good.{IsGood}
 use Rattle.core_steps.specs.Settled.{IsSettledFrom}
 use Rattle.core_steps.specs.Steps.{part_at, run, steps_by}
-use Rattle.core_steps.specs.Told.{Told, Rose, listed}
+use Rattle.core_steps.specs.Told.{Told, listed}
+use Rattle.call_counts.specs.Counts.{Rose}
 use Rattle.shards.specs.Known.{Own, Desk, Ended, Known, all_tell}
 
 -- ENDINGS

@@ -2,6 +2,7 @@
 use crate::failure::{Action, Failure, HostFault};
 use crate::handles::Handles;
 use crate::tally::Tally;
+use call_counts::raised;
 use std::alloc::Global;
 use std::num::NonZeroUsize;
 use store_io::{Disk, DiskFailed};
@@ -68,7 +69,7 @@ impl Disk for FolderDisk {
     }
 
     fn read(&mut self, file: u32, at: u64, buf: &mut [u8]) -> Result<(), DiskFailed> {
-        self.read_calls = self.read_calls.saturating_add(1);
+        self.read_calls = raised(self.read_calls);
         self.tally.check()?;
         self.tally.count(self.handles.read(file, at, buf))
     }

@@ -1,6 +1,7 @@
 // A writer of the host as a sink.
 use crate::answers::{Answers, FirstRefusal};
 use crate::failure::StreamFailure;
+use call_counts::raised;
 use std::alloc::Global;
 use std::io;
 use std::io::Write;
@@ -70,7 +71,7 @@ impl<'a, W: Write + Drop> Sink for StdSink<'a, W> {
             }
             Err(reason) => {
                 self.failure = Some(StreamFailure::new(reason));
-                self.faults = self.faults.saturating_add(1);
+                self.faults = raised(self.faults);
                 Err(SinkFailed)
             }
         }

@@ -4,6 +4,7 @@ ghost use Rattle.std.specs.Prelude.{◌≤◌, length, IfOk};
 use crate::answers::FirstRefusal;
 use crate::failure::StreamFailure;
 use crate::kept_lines::KeptLines;
+use call_counts::raised;
 use std::alloc::Global;
 use std::io;
 use std::io::{ErrorKind, Read};
@@ -70,7 +71,7 @@ impl<'a, R: Read + Drop> Source for StdSource<'a, R> {
             }
             Err(reason) => {
                 self.failure = Some(StreamFailure::new(reason));
-                self.faults = self.faults.saturating_add(1);
+                self.faults = raised(self.faults);
                 Err(SourceFailed)
             }
         }

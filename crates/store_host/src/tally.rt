@@ -1,8 +1,9 @@
 // The failures of a disk.
 ghost use Rattle.std.specs.Prelude.{◌≡◌, ◌≤◌, true, false, IsTrue, IfOk, OnOk, OnErr, IsOk, IsErr};
-ghost use Rattle.store_io.specs.Disk.{Rose};
+ghost use Rattle.call_counts.specs.Counts.{Rose};
 
 use crate::failure::Failure;
+use call_counts::raised;
 use store_io::DiskFailed;
 
 /// How often a disk has failed, and why it did so first.
@@ -13,14 +14,6 @@ pub(crate) struct Tally {
     /// fails and none is made.
     pub(crate) ended: bool,
     pub(crate) first: Option<Failure>,
-}
-
-/// The count after a failure. It stands still at its type's end.
-fn raised(faults: u64) -> u64
-    ensures not_less { faults ≤ result }
-    ensures rose { Rose faults result }
-{
-    faults.saturating_add(1)
 }
 
 impl Tally {

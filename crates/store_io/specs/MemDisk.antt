@@ -1,7 +1,7 @@
 -- A disk in memory, as contracts see it.
 use Rattle.std.specs.Prelude.{◌≡◌, ℕ, Bool, ◌||◌, List, Option}
 use Rattle.store_io.specs.Files.{reads_of, leaves_of}
-use Rattle.store_io.specs.Disk.{raised}
+use Rattle.call_counts.specs.Counts.{raised}
 use Rattle.store_io.specs.Failing.{is_listed, is_stopped, is_past}
 use Rattle.store_io.specs.declared.mem_file.MemFile.{MemFile}
 

@@ -8,6 +8,7 @@ use crate::files::{file_len, read_in};
 use crate::mem_file::MemFile;
 use crate::pick::Pick;
 use crate::restart::restarted_files;
+use call_counts::raised;
 use std::alloc::{AllocError, Global};
 use std::marker::Model;
 
@@ -32,13 +33,6 @@ impl Model for MemDisk {
     ghost Value = { DiskState };
 
     ghost view = { λ d. record { files = d.files.items; fails = d.fails.items; stop_after = d.stop_after; calls = d.calls; faults = d.faults; read_calls = d.read_calls } };
-}
-
-/// The number after this one; the greatest stays.
-fn raised(n: u64) -> u64
-    ensures { result ≡ min (n + 1) (2 ^ 64 - 1) }
-{
-    n.saturating_add(1)
 }
 
 /// How the call of this number goes.
@@ -112,7 +106,8 @@ impl MemDisk {
 
 impl Disk for MemDisk {
     ghost use Rattle.std.specs.Prelude.{◌≤◌, ◌↔◌, true, false, ℕ, List, IsTrue, length, take, drop, IsErr, IfOk, OnOk, OnErr};
-    ghost use Rattle.store_io.specs.Disk.{Holds, Torn, CutShort, Follows, Only, OthersStay, Rose, raised};
+    ghost use Rattle.store_io.specs.Disk.{Holds, Torn, CutShort, Follows, Only, OthersStay};
+    ghost use Rattle.call_counts.specs.Counts.{Rose, raised};
     ghost use Rattle.store_io.specs.Files.{reads_left_of};
     ghost use Rattle.store_io.specs.MemDisk.{disk_reads, disk_leaves, is_due, is_dead, IsCounted};
     ghost use Rattle.store_io.specs.Restart.{disk_synced};

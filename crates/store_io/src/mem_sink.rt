@@ -1,9 +1,10 @@
 // A sink in memory, some of whose calls fail.
 ghost use Rattle.std.specs.Prelude.{◌≡◌, ◌≤◌, ◌++◌, [], ℕ, length, take, IsTrue, IsErr, OnOk, OnErr};
-ghost use Rattle.store_io.specs.Disk.{Rose, raised};
+ghost use Rattle.call_counts.specs.Counts.{Rose, raised};
 ghost use Rattle.store_io.specs.Failing.{is_listed};
 
 use crate::sink::{Sink, SinkFailed};
+use call_counts::raised;
 use std::alloc::Global;
 use std::marker::Model;
 
@@ -66,11 +67,11 @@ impl Sink for MemSink {
         ensures put { OnOk result (self.new ≡ record self.old { written = self.old.written ++ bytes.now; calls = raised self.old.calls }) }
         ensures kept { OnErr result (self.new ≡ record self.old { calls = raised self.old.calls; faults = raised self.old.faults }) }
     {
-        self.calls = self.calls.saturating_add(1);
+        self.calls = raised(self.calls);
         if !self.fails.contains(&self.calls) && self.written.extend_from_slice(bytes).is_ok() {
             return Ok(());
         }
-        self.faults = self.faults.saturating_add(1);
+        self.faults = raised(self.faults);
         Err(SinkFailed)
     }
 }

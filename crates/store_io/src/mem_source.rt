@@ -1,9 +1,10 @@
 // A source in memory, some of whose calls fail.
 ghost use Rattle.std.specs.Prelude.{◌≡◌, ◌<◌, ◌≤◌, ◌+◌, ◌++◌, ◌↔◌, [], length, take, drop, min, IsTrue, IfOk, IsErr, OnErr};
-ghost use Rattle.store_io.specs.Disk.{Rose, raised};
+ghost use Rattle.call_counts.specs.Counts.{Rose, raised};
 ghost use Rattle.store_io.specs.Failing.{is_listed};
 
 use crate::source::{Source, SourceFailed};
+use call_counts::raised;
 use std::marker::Model;
 
 /// Bytes in memory, given out in pieces. The listed calls, by number from 1, fail and move nothing.
@@ -77,9 +78,9 @@ impl Source for MemSource {
         ensures ok { IfOk result (λ n. self.new ≡ record self.old { left = drop n self.old.left; calls = raised self.old.calls }) }
         ensures err { OnErr result (self.new ≡ record self.old { calls = raised self.old.calls; faults = raised self.old.faults }) }
     {
-        self.calls = self.calls.saturating_add(1);
+        self.calls = raised(self.calls);
         if self.fails.contains(&self.calls) {
-            self.faults = self.faults.saturating_add(1);
+            self.faults = raised(self.faults);
             return Err(SourceFailed);
         }
         let n = buf.len().min(self.piece).min(self.bytes.len() - self.at);

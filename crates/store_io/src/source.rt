@@ -1,6 +1,6 @@
 // A source of bytes, as the program sees it.
 ghost use Rattle.std.specs.Prelude.{◌≡◌, ◌<◌, ◌≤◌, ◌++◌, [], List, ℕ, Bool, IsTrue, length, take, IfOk, OnErr};
-ghost use Rattle.store_io.specs.Disk.{Rose};
+ghost use Rattle.call_counts.specs.Counts.{Rose};
 
 /// A read that failed.
 #[derive(Clone, Copy, Debug, Drop, PartialEq, Eq)]

@@ -1,5 +1,6 @@
 pub mod Acknowledged
 pub mod Answer
+pub mod Causes
 pub mod Faults
 pub mod Full
 pub mod Lines

@@ -1,7 +1,7 @@
 //! The words `generate`.
 
 ghost use Rattle.std.specs.Prelude.{◌≡◌, ◌≤◌, ◌<◌, ◌^◌, ◌⊎◌, [], IsTrue};
-ghost use Rattle.store_io.specs.Disk.{Rose};
+ghost use Rattle.call_counts.specs.Counts.{Rose};
 ghost use Rattle.workload.specs.Lines.{script};
 ghost use Rattle.store_run.specs.Run.{IsAnswered};
 ghost use Rattle.store_run.specs.Scripts.{text_of};

@@ -1,11 +1,12 @@
 // The lines of a source are answered.
 ghost use Rattle.std.specs.Prelude.{◌≡◌, ◌<◌, ◌≤◌, ◌++◌, [], ℕ, List, IsTrue, length, take, drop, OnOk, IfErr, IfOk, OnErr, IsErrOf};
-ghost use Rattle.store_io.specs.Disk.{Rose};
+ghost use Rattle.call_counts.specs.Counts.{Rose};
 ghost use Rattle.session_model.specs.Answer.{State};
 ghost use Rattle.plain_storage.specs.Held.{PlainHeld};
 ghost use Rattle.plain_storage.specs.Images.{AreClean, OtherFilesStay};
 ghost use Rattle.plain_storage.specs.Keeping.{AreOpen};
 ghost use Rattle.plain_storage.specs.Logs.{HasFullLog};
+ghost use Rattle.store_run.specs.Causes.{HasCauses};
 ghost use Rattle.store_run.specs.Serving.{IsAt};
 ghost use Rattle.store_run.specs.Progress.{IsFinished, IsPartAnswered, StandsBehind};
 
@@ -62,15 +63,10 @@ pub fn serve_source<S: Source, K: Sink, D: Disk>(
     ensures stop { IsTrue S.tells → IsTrue K.tells → IsTrue D.tells → AreClean (D.reads disk.old) (D.leaves disk.old) → (start : PlainHeld) → StandsBehind start [] session.old plain.old (D.reads disk.old)
         → IfErr result (λ e. IsPartAnswered start (S.left source.old) e (K.written sink.old) (K.written sink.new) (D.reads disk.new) (D.leaves disk.new)) }
 
-    ensures source_faults { S.faults source.old ≤ S.faults source.new }
-    ensures sink_faults { K.faults sink.old ≤ K.faults sink.new }
-    ensures disk_faults { D.faults disk.old ≤ D.faults disk.new }
-    ensures read_fault { IsErrOf result Stop.ReadFault → Rose (S.faults source.old) (S.faults source.new) }
-    ensures write_fault { IsErrOf result Stop.WriteFault → Rose (K.faults sink.old) (K.faults sink.new) }
-    ensures storage_fault { IsErrOf result Stop.StorageFault → Rose (D.faults disk.old) (D.faults disk.new) }
+    ensures causes { HasCauses (λ stop. IsErrOf result stop) D.tells (D.reads disk.new)
+        (S.faults source.old) (S.faults source.new) (K.faults sink.old) (K.faults sink.new) (D.faults disk.old) (D.faults disk.new) }
     ensures too_long { IsTrue S.tells → IsErrOf result Stop.InputTooLong → (268435456 ≤ length (S.left source.old)) × (S.left source.new ≡ drop 268435456 (S.left source.old)) }
     ensures not_too_long { IsTrue S.tells → OnOk result (length (S.left source.old) < 268435456) }
-    ensures full { IsTrue D.tells → IsErrOf result Stop.Full → HasFullLog (D.reads disk.new) }
 {
     let mut buf = buffer(alloc)?;
     serve_pieces(alloc, session, plain, disk, source, sink, &mut buf)?;
@@ -98,15 +94,10 @@ fn serve_pieces<S: Source, K: Sink, D: Disk>(
     ensures stop { IsTrue S.tells → IsTrue K.tells → IsTrue D.tells → AreClean (D.reads disk.old) (D.leaves disk.old) → (start : PlainHeld) → StandsBehind start [] session.old plain.old (D.reads disk.old)
         → IfErr result (λ e. IsPartAnswered start (S.left source.old) e (K.written sink.old) (K.written sink.new) (D.reads disk.new) (D.leaves disk.new)) }
 
-    ensures source_faults { S.faults source.old ≤ S.faults source.new }
-    ensures sink_faults { K.faults sink.old ≤ K.faults sink.new }
-    ensures disk_faults { D.faults disk.old ≤ D.faults disk.new }
-    ensures read_fault { IsErrOf result Stop.ReadFault → Rose (S.faults source.old) (S.faults source.new) }
-    ensures write_fault { IsErrOf result Stop.WriteFault → Rose (K.faults sink.old) (K.faults sink.new) }
-    ensures storage_fault { IsErrOf result Stop.StorageFault → Rose (D.faults disk.old) (D.faults disk.new) }
+    ensures causes { HasCauses (λ stop. IsErrOf result stop) D.tells (D.reads disk.new)
+        (S.faults source.old) (S.faults source.new) (K.faults sink.old) (K.faults sink.new) (D.faults disk.old) (D.faults disk.new) }
     ensures too_long { IsTrue S.tells → IsErrOf result Stop.InputTooLong → (268435456 ≤ length (S.left source.old)) × (S.left source.new ≡ drop 268435456 (S.left source.old)) }
     ensures not_too_long { IsTrue S.tells → OnOk result (length (S.left source.old) < 268435456) }
-    ensures full { IsTrue D.tells → IsErrOf result Stop.Full → HasFullLog (D.reads disk.new) }
 {
     let mut unended = Vec::new(alloc);
     let mut taken = 0;

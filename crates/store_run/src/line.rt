@@ -1,6 +1,6 @@
 // One line is answered.
 ghost use Rattle.std.specs.Prelude.{◌≡◌, ◌≤◌, ◌++◌, Bool, IsTrue, IfOk, OnOk, IfErr, IsErrOf};
-ghost use Rattle.store_io.specs.Disk.{Rose};
+ghost use Rattle.call_counts.specs.Counts.{Rose};
 ghost use Rattle.session.specs.Dealing.{IsDueStep};
 ghost use Rattle.session_lines.specs.Limits.{most_bytes};
 ghost use Rattle.session.specs.Sessions.{SessionView as AnySession};
@@ -9,6 +9,7 @@ ghost use Rattle.plain_storage.specs.Images.{AreClean, OtherFilesStay};
 ghost use Rattle.plain_storage.specs.Keeping.{AreOpen, Keeps, held_in};
 ghost use Rattle.plain_storage.specs.Logs.{HasFullLog};
 ghost use Rattle.store_run.specs.Answer.{held_behind};
+ghost use Rattle.store_run.specs.Causes.{HasLineCauses};
 ghost use Rattle.store_run.specs.Serving.{IsAt, IsTurnCut};
 ghost use Rattle.store_run.specs.Within.{IsNoLine, IsWithin, LineBegun, MayCarry, StandsFor, any_record};
 
@@ -38,13 +39,7 @@ fn carry_on<K: Sink, D: Disk>(
     ensures stop { IsTrue K.tells → IsTrue D.tells → AreClean (D.reads disk.old) (D.leaves disk.old) → (session : AnySession) (kept : Bool) (line : LineBegun) → IsTrue kept
         → IsWithin K.tells kept line (IsDueStep any_record step session) plain.old (D.reads disk.old) (K.written sink.old)
         → IfErr result (λ e. IsTurnCut line.turn line.held e line.written (K.written sink.new) (D.reads disk.new) (D.leaves disk.new)) }
-    ensures disk_faults { D.faults disk.old ≤ D.faults disk.new }
-    ensures sink_faults { K.faults sink.old ≤ K.faults sink.new }
-    ensures write_fault { IsErrOf result Stop.WriteFault → Rose (K.faults sink.old) (K.faults sink.new) }
-    ensures storage_fault { IsErrOf result Stop.StorageFault → Rose (D.faults disk.old) (D.faults disk.new) }
-    ensures full { IsTrue D.tells → IsErrOf result Stop.Full → HasFullLog (D.reads disk.new) }
-    ensures not_read { IsErrOf result Stop.ReadFault → ⊥ }
-    ensures not_long { IsErrOf result Stop.InputTooLong → ⊥ }
+    ensures causes { HasLineCauses (λ stop. IsErrOf result stop) D.tells (D.reads disk.new) (K.faults sink.old) (K.faults sink.new) (D.faults disk.old) (D.faults disk.new) }
 {
     match step {
         SessionStep::Ask(ask) => {
@@ -87,13 +82,7 @@ pub fn serve_line<K: Sink, D: Disk>(
     ensures stop { IsTrue K.tells → IsTrue D.tells → AreClean (D.reads disk.old) (D.leaves disk.old) → (now : State) → IsAt session.old plain.old now → Keeps plain.old now.types (D.reads disk.old)
         → IfErr result (λ e. IsTurnCut (turn most_bytes now line.now) (held_in plain.old now.types) e (K.written sink.old) (K.written sink.new) (D.reads disk.new) (D.leaves disk.new)) }
 
-    ensures disk_faults { D.faults disk.old ≤ D.faults disk.new }
-    ensures sink_faults { K.faults sink.old ≤ K.faults sink.new }
-    ensures write_fault { IsErrOf result Stop.WriteFault → Rose (K.faults sink.old) (K.faults sink.new) }
-    ensures storage_fault { IsErrOf result Stop.StorageFault → Rose (D.faults disk.old) (D.faults disk.new) }
-    ensures full { IsTrue D.tells → IsErrOf result Stop.Full → HasFullLog (D.reads disk.new) }
-    ensures not_read { IsErrOf result Stop.ReadFault → ⊥ }
-    ensures not_long { IsErrOf result Stop.InputTooLong → ⊥ }
+    ensures causes { HasLineCauses (λ stop. IsErrOf result stop) D.tells (D.reads disk.new) (K.faults sink.old) (K.faults sink.new) (D.faults disk.old) (D.faults disk.new) }
 {
     let text = Bytes::new(Vec::from_slice(alloc, line)?);
     let mut step = session.next(Given::Line(text))?;

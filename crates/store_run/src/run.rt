@@ -1,6 +1,6 @@
 // A whole run.
 ghost use Rattle.std.specs.Prelude.{◌≡◌, ◌<◌, ◌≤◌, ◌++◌, ◌⊎◌, [], ℕ, List, IsTrue, IfOk, length, drop, codes};
-ghost use Rattle.store_io.specs.Disk.{Rose};
+ghost use Rattle.call_counts.specs.Counts.{Rose};
 ghost use Rattle.session_model.specs.Answer.{State};
 ghost use Rattle.plain_storage.specs.Held.{IsPlainFault, IsPlainStored, PlainHeld};
 ghost use Rattle.plain_storage.specs.Images.{AreClean, EachPair, OtherFilesStay};
@@ -11,6 +11,7 @@ ghost use Rattle.store_run.specs.Acknowledged.{acknowledged};
 ghost use Rattle.store_run.specs.Answer.{answer, opened_on};
 ghost use Rattle.store_run.specs.Progress.{StandsBehind};
 ghost use Rattle.store_run.specs.Run.{HoldsAcknowledged, IsCleanWith, IsFrontOf, IsRun, Puts};
+ghost use Rattle.store_run.specs.Causes.{HasCauses};
 ghost use Rattle.store_run.specs.Serving.{IsAt};
 ghost use Rattle.store_run.specs.Statuses.{status_of};
 
@@ -82,17 +83,12 @@ fn serve_script<S: Source, K: Sink, D: Disk>(
     ensures run { IsTrue S.tells → IsTrue K.tells → IsTrue D.tells → AreClean (D.reads disk.old) (D.leaves disk.old) → (start : PlainHeld) → StandsBehind start [] session.old plain.old (D.reads disk.old)
         → IsRun start result (S.left source.old) (S.left source.new) (K.written sink.old) (K.written sink.new) (D.reads disk.new) (D.leaves disk.new) }
     ensures others { IsTrue D.tells → OtherFilesStay (D.reads disk.old) (D.reads disk.new) (D.leaves disk.old) (D.leaves disk.new) }
-    ensures source_faults { S.faults source.old ≤ S.faults source.new }
-    ensures sink_faults { K.faults sink.old ≤ K.faults sink.new }
-    ensures disk_faults { D.faults disk.old ≤ D.faults disk.new }
+    ensures causes { HasCauses (λ stop. result ≡ status_of stop) D.tells (D.reads disk.new)
+        (S.faults source.old) (S.faults source.new) (K.faults sink.old) (K.faults sink.new) (D.faults disk.old) (D.faults disk.new) }
     ensures not_words { result ≡ Status.Words → ⊥ }
     ensures not_damaged { (channel : ℕ) (cause : Cause) → result ≡ Status.Damaged channel cause → ⊥ }
-    ensures read_fault { result ≡ Status.ReadFault → Rose (S.faults source.old) (S.faults source.new) }
-    ensures write_fault { result ≡ Status.WriteFault → Rose (K.faults sink.old) (K.faults sink.new) }
-    ensures storage_fault { result ≡ Status.StorageFault → Rose (D.faults disk.old) (D.faults disk.new) }
     ensures too_long { IsTrue S.tells → result ≡ Status.InputTooLong → (268435456 ≤ length (S.left source.old)) × (S.left source.new ≡ drop 268435456 (S.left source.old)) }
     ensures not_too_long { IsTrue S.tells → result ≡ Status.Done → length (S.left source.old) < 268435456 }
-    ensures full { IsTrue D.tells → result ≡ Status.Full → HasFullLog (D.reads disk.new) }
 {
     match serve_source(alloc, session, plain, disk, source, sink) {
         Ok(()) => Status::Done,
@@ -114,17 +110,12 @@ fn serve_opened<S: Source, K: Sink, D: Disk>(
     ensures run { IsTrue S.tells → IsTrue K.tells → IsTrue D.tells → AreClean (D.reads disk.old) (D.leaves disk.old)
         → IsRun (held_in plain.old types) result (S.left source.old) (S.left source.new) (K.written sink.old) (K.written sink.new) (D.reads disk.new) (D.leaves disk.new) }
     ensures others { IsTrue D.tells → OtherFilesStay (D.reads disk.old) (D.reads disk.new) (D.leaves disk.old) (D.leaves disk.new) }
-    ensures source_faults { S.faults source.old ≤ S.faults source.new }
-    ensures sink_faults { K.faults sink.old ≤ K.faults sink.new }
-    ensures disk_faults { D.faults disk.old ≤ D.faults disk.new }
+    ensures causes { HasCauses (λ stop. result ≡ status_of stop) D.tells (D.reads disk.new)
+        (S.faults source.old) (S.faults source.new) (K.faults sink.old) (K.faults sink.new) (D.faults disk.old) (D.faults disk.new) }
     ensures not_words { result ≡ Status.Words → ⊥ }
     ensures not_damaged { (channel : ℕ) (cause : Cause) → result ≡ Status.Damaged channel cause → ⊥ }
-    ensures read_fault { result ≡ Status.ReadFault → Rose (S.faults source.old) (S.faults source.new) }
-    ensures write_fault { result ≡ Status.WriteFault → Rose (K.faults sink.old) (K.faults sink.new) }
-    ensures storage_fault { result ≡ Status.StorageFault → Rose (D.faults disk.old) (D.faults disk.new) }
     ensures too_long { IsTrue S.tells → result ≡ Status.InputTooLong → (268435456 ≤ length (S.left source.old)) × (S.left source.new ≡ drop 268435456 (S.left source.old)) }
     ensures not_too_long { IsTrue S.tells → result ≡ Status.Done → length (S.left source.old) < 268435456 }
-    ensures full { IsTrue D.tells → result ≡ Status.Full → HasFullLog (D.reads disk.new) }
 {
     match first_session(alloc, plain, types) {
         Ok(mut session) => serve_script(alloc, &mut session, plain, source, sink, disk),
@@ -133,7 +124,7 @@ fn serve_opened<S: Source, K: Sink, D: Disk>(
 }
 
 /// Serves the script of the source on one disk.
-fn run_on<S: Source, K: Sink, D: Disk>(
+pub fn run_on<S: Source, K: Sink, D: Disk>(
     alloc: Global,
     source: &mut S,
     sink: &mut K,
@@ -152,17 +143,11 @@ fn run_on<S: Source, K: Sink, D: Disk>(
         → Puts (IsFrontOf (codes "damaged 0 header\n")) (K.written sink.old) (K.written sink.new) }
     ensures fault_stays { IsTrue D.tells → IsPlainFault (D.reads disk.old 0) (D.reads disk.old 1)
         → (source.new ≡ source.old) × (D.reads disk.new ≡ D.reads disk.old) × (D.leaves disk.new ≡ D.leaves disk.old) }
-
-    ensures source_faults { S.faults source.old ≤ S.faults source.new }
-    ensures sink_faults { K.faults sink.old ≤ K.faults sink.new }
-    ensures disk_faults { D.faults disk.old ≤ D.faults disk.new }
+    ensures causes { HasCauses (λ stop. result ≡ status_of stop) D.tells (D.reads disk.new)
+        (S.faults source.old) (S.faults source.new) (K.faults sink.old) (K.faults sink.new) (D.faults disk.old) (D.faults disk.new) }
     ensures not_words { result ≡ Status.Words → ⊥ }
-    ensures read_fault { result ≡ Status.ReadFault → Rose (S.faults source.old) (S.faults source.new) }
-    ensures write_fault { result ≡ Status.WriteFault → Rose (K.faults sink.old) (K.faults sink.new) }
-    ensures storage_fault { result ≡ Status.StorageFault → Rose (D.faults disk.old) (D.faults disk.new) }
     ensures too_long { IsTrue S.tells → result ≡ Status.InputTooLong → (268435456 ≤ length (S.left source.old)) × (S.left source.new ≡ drop 268435456 (S.left source.old)) }
     ensures not_too_long { IsTrue S.tells → result ≡ Status.Done → length (S.left source.old) < 268435456 }
-    ensures full { IsTrue D.tells → result ≡ Status.Full → HasFullLog (D.reads disk.new) }
 {
     match open(alloc, disk) {
         Ok((mut plain, types)) => serve_opened(alloc, &mut plain, types, source, sink, disk),
@@ -170,47 +155,4 @@ fn run_on<S: Source, K: Sink, D: Disk>(
         Err(OpenFault::Fault) => Status::StorageFault,
         Err(OpenFault::Damaged) => put_damage(sink),
     }
-}
-
-/// Serves the script of the source on one disk, and says when it must end well.
-pub fn run_disk<S: Source, K: Sink, D: Disk>(
-    alloc: Global,
-    source: &mut S,
-    sink: &mut K,
-    disk: &mut D,
-) -> Status
-    ensures run { IsTrue S.tells → IsTrue K.tells → IsTrue D.tells → (start : PlainHeld) → IsCleanWith start (D.reads disk.old) (D.leaves disk.old)
-        → IsRun start result (S.left source.old) (S.left source.new) (K.written sink.old) (K.written sink.new) (D.reads disk.new) (D.leaves disk.new) }
-    ensures acknowledged { IsTrue S.tells → IsTrue K.tells → IsTrue D.tells → (start : PlainHeld) → IsCleanWith start (D.reads disk.old) (D.leaves disk.old)
-        → EachPair (D.leaves disk.new) (HoldsAcknowledged start (answer start (S.left source.old)).stores (acknowledged (K.written sink.old) (K.written sink.new))) }
-    ensures others { IsTrue D.tells → OtherFilesStay (D.reads disk.old) (D.reads disk.new) (D.leaves disk.old) (D.leaves disk.new) }
-
-    ensures damaged { IsTrue D.tells → (channel : ℕ) (cause : Cause) → result ≡ Status.Damaged channel cause
-        → (channel ≡ 0) × (cause ≡ Cause.Header) × IsPlainFault (D.reads disk.old 0) (D.reads disk.old 1) }
-    ensures fault_is_damaged { IsTrue D.tells → IsPlainFault (D.reads disk.old 0) (D.reads disk.old 1) → ¬ Rose (D.faults disk.old) (D.faults disk.new)
-        → ¬ Rose (K.faults sink.old) (K.faults sink.new) → (result ≡ Status.Damaged 0 Cause.Header) ⊎ (result ≡ Status.NoMemory) }
-    ensures damaged_line { IsTrue K.tells → (channel : ℕ) (cause : Cause) → result ≡ Status.Damaged channel cause → K.written sink.new ≡ K.written sink.old ++ codes "damaged 0 header\n" }
-    ensures fault_line { IsTrue K.tells → IsTrue D.tells → IsPlainFault (D.reads disk.old 0) (D.reads disk.old 1)
-        → Puts (IsFrontOf (codes "damaged 0 header\n")) (K.written sink.old) (K.written sink.new) }
-    ensures fault_stays { IsTrue D.tells → IsPlainFault (D.reads disk.old 0) (D.reads disk.old 1)
-        → (source.new ≡ source.old) × (D.reads disk.new ≡ D.reads disk.old) × (D.leaves disk.new ≡ D.leaves disk.old) }
-
-    ensures not_words { result ≡ Status.Words → ⊥ }
-    ensures read_fault { result ≡ Status.ReadFault → Rose (S.faults source.old) (S.faults source.new) }
-    ensures write_fault { result ≡ Status.WriteFault → Rose (K.faults sink.old) (K.faults sink.new) }
-    ensures storage_fault { result ≡ Status.StorageFault → Rose (D.faults disk.old) (D.faults disk.new) }
-    ensures too_long { IsTrue S.tells → result ≡ Status.InputTooLong → (268435456 ≤ length (S.left source.old)) × (S.left source.new ≡ drop 268435456 (S.left source.old)) }
-    ensures full { IsTrue D.tells → result ≡ Status.Full → HasFullLog (D.reads disk.new) }
-
-    // Where nothing fails and no log is full, the script is served whole, or is refused as too long.
-    ensures complete { IsTrue S.tells → IsTrue D.tells → (start : PlainHeld) → IsPlainStored (D.reads disk.old 0) (D.reads disk.old 1) start
-        → length (S.left source.old) < 268435456 → ¬ HasFullLog (D.reads disk.new)
-        → ¬ Rose (S.faults source.old) (S.faults source.new) → ¬ Rose (K.faults sink.old) (K.faults sink.new) → ¬ Rose (D.faults disk.old) (D.faults disk.new)
-        → (result ≡ Status.Done) ⊎ (result ≡ Status.NoMemory) }
-    ensures refused { IsTrue S.tells → IsTrue D.tells → (start : PlainHeld) → IsPlainStored (D.reads disk.old 0) (D.reads disk.old 1) start
-        → 268435456 ≤ length (S.left source.old) → ¬ HasFullLog (D.reads disk.new)
-        → ¬ Rose (S.faults source.old) (S.faults source.new) → ¬ Rose (K.faults sink.old) (K.faults sink.new) → ¬ Rose (D.faults disk.old) (D.faults disk.new)
-        → (result ≡ Status.InputTooLong) ⊎ (result ≡ Status.NoMemory) }
-{
-    run_on(alloc, source, sink, disk)
 }

@@ -1,11 +1,12 @@
 // The bytes of a script are taken, and each line that they end is answered.
 ghost use Rattle.std.specs.Prelude.{◌≡◌, ◌<◌, ◌≤◌, [], ◌∷◌, ℕ, List, IsTrue, OnOk, IfErr, IsErrOf};
-ghost use Rattle.store_io.specs.Disk.{Rose};
+ghost use Rattle.call_counts.specs.Counts.{Rose};
 ghost use Rattle.session_model.specs.Answer.{State};
 ghost use Rattle.plain_storage.specs.Held.{PlainHeld};
 ghost use Rattle.plain_storage.specs.Images.{AreClean, OtherFilesStay};
 ghost use Rattle.plain_storage.specs.Keeping.{AreOpen};
 ghost use Rattle.plain_storage.specs.Logs.{HasFullLog};
+ghost use Rattle.store_run.specs.Causes.{HasLineCauses};
 ghost use Rattle.store_run.specs.Serving.{IsAt};
 ghost use Rattle.store_run.specs.Progress.{IsFinished, IsPartAnswered, IsServed, Serves, Stops};
 
@@ -37,13 +38,7 @@ fn serve_byte<K: Sink, D: Disk>(
     ensures stop { IsTrue K.tells → IsTrue D.tells → AreClean (D.reads disk.old) (D.leaves disk.old) → IfErr result (λ e. Stops session.old plain.old (D.reads disk.old)
         unended.old.items (byte ∷ []) e (K.written sink.old) (K.written sink.new) (D.reads disk.new) (D.leaves disk.new)) }
 
-    ensures disk_faults { D.faults disk.old ≤ D.faults disk.new }
-    ensures sink_faults { K.faults sink.old ≤ K.faults sink.new }
-    ensures write_fault { IsErrOf result Stop.WriteFault → Rose (K.faults sink.old) (K.faults sink.new) }
-    ensures storage_fault { IsErrOf result Stop.StorageFault → Rose (D.faults disk.old) (D.faults disk.new) }
-    ensures full { IsTrue D.tells → IsErrOf result Stop.Full → HasFullLog (D.reads disk.new) }
-    ensures not_read { IsErrOf result Stop.ReadFault → ⊥ }
-    ensures not_long { IsErrOf result Stop.InputTooLong → ⊥ }
+    ensures causes { HasLineCauses (λ stop. IsErrOf result stop) D.tells (D.reads disk.new) (K.faults sink.old) (K.faults sink.new) (D.faults disk.old) (D.faults disk.new) }
 {
     if byte != b'\n' {
         unended.push(byte)?;
@@ -75,13 +70,7 @@ pub fn serve_piece<K: Sink, D: Disk>(
     ensures stop { IsTrue K.tells → IsTrue D.tells → AreClean (D.reads disk.old) (D.leaves disk.old) → IfErr result (λ e. Stops session.old plain.old (D.reads disk.old)
         unended.old.items piece.now e (K.written sink.old) (K.written sink.new) (D.reads disk.new) (D.leaves disk.new)) }
 
-    ensures disk_faults { D.faults disk.old ≤ D.faults disk.new }
-    ensures sink_faults { K.faults sink.old ≤ K.faults sink.new }
-    ensures write_fault { IsErrOf result Stop.WriteFault → Rose (K.faults sink.old) (K.faults sink.new) }
-    ensures storage_fault { IsErrOf result Stop.StorageFault → Rose (D.faults disk.old) (D.faults disk.new) }
-    ensures full { IsTrue D.tells → IsErrOf result Stop.Full → HasFullLog (D.reads disk.new) }
-    ensures not_read { IsErrOf result Stop.ReadFault → ⊥ }
-    ensures not_long { IsErrOf result Stop.InputTooLong → ⊥ }
+    ensures causes { HasLineCauses (λ stop. IsErrOf result stop) D.tells (D.reads disk.new) (K.faults sink.old) (K.faults sink.new) (D.faults disk.old) (D.faults disk.new) }
 {
     for byte in piece {
         serve_byte(alloc, session, plain, disk, sink, unended, *byte)?;
@@ -110,13 +99,7 @@ pub fn serve_end<K: Sink, D: Disk>(
         → IsServed start session.old plain.old (D.reads disk.old) script unended.now written0 (K.written sink.old)
         → IsPartAnswered start script e written0 (K.written sink.new) (D.reads disk.new) (D.leaves disk.new)) }
 
-    ensures disk_faults { D.faults disk.old ≤ D.faults disk.new }
-    ensures sink_faults { K.faults sink.old ≤ K.faults sink.new }
-    ensures write_fault { IsErrOf result Stop.WriteFault → Rose (K.faults sink.old) (K.faults sink.new) }
-    ensures storage_fault { IsErrOf result Stop.StorageFault → Rose (D.faults disk.old) (D.faults disk.new) }
-    ensures full { IsTrue D.tells → IsErrOf result Stop.Full → HasFullLog (D.reads disk.new) }
-    ensures not_read { IsErrOf result Stop.ReadFault → ⊥ }
-    ensures not_long { IsErrOf result Stop.InputTooLong → ⊥ }
+    ensures causes { HasLineCauses (λ stop. IsErrOf result stop) D.tells (D.reads disk.new) (K.faults sink.old) (K.faults sink.new) (D.faults disk.old) (D.faults disk.new) }
 {
     if unended.is_empty() {
         return Ok(());

@@ -1,6 +1,6 @@
 // The top call.
 ghost use Rattle.std.specs.Prelude.{◌≡◌, ◌<◌, ◌≤◌, ◌⊎◌, ◌∷◌, [], ◌++◌, ℕ, List, false, IsTrue, length, drop, codes, ◌↔◌};
-ghost use Rattle.store_io.specs.Disk.{Rose};
+ghost use Rattle.call_counts.specs.Counts.{Rose};
 ghost use Rattle.plain_storage.specs.Held.{IsPlainFault, IsPlainStored, PlainHeld};
 ghost use Rattle.plain_storage.specs.Images.{EachPair, OtherFilesStay};
 ghost use Rattle.plain_storage.specs.Logs.{HasFullLog};
@@ -12,7 +12,7 @@ ghost use Rattle.store_run.specs.Run.{IsAnswered, IsCleanWith, HoldsAcknowledged
 ghost use Rattle.store_run.specs.Top.{OfOneDisk};
 ghost use Rattle.store_run.specs.declared.status.Cause.{Cause};
 
-use crate::run::run_disk;
+use crate::run::run_on;
 use crate::status::Status;
 use crate::words::are_run_words;
 use std::alloc::Global;
@@ -93,5 +93,5 @@ pub fn run_alone<S: Source, K: Sink, D: Disk>(
     if !are_run_words(words) {
         return Status::Words;
     }
-    run_disk(alloc, source, sink, &mut disks[0])
+    run_on(alloc, source, sink, &mut disks[0])
 }

@@ -1,6 +1,7 @@
 //! An entry in a log.
 ghost use Rattle.std.specs.Prelude.{◌≡◌, ◌⊎◌, ◌≤◌, ◌<◌, ◌+◌, ◌-◌, ◌^◌, ◌++◌, [], ◌∷◌, Ok, IsTrue, length, OnOk, OnErr, IfErr, IsErrOf};
-ghost use Rattle.store_io.specs.Disk.{Only, OthersStay, Rose};
+ghost use Rattle.store_io.specs.Disk.{Only, OthersStay};
+ghost use Rattle.call_counts.specs.Counts.{Rose};
 ghost use Rattle.gated_log.specs.Log.{payloads_of, IsLogOf, IsBeforeOrAfter, Each};
 ghost use Rattle.gated_log.specs.Of.{IsOf};
 ghost use Rattle.tx_entry.specs.Entries.{spelling, entry_of};

@@ -24,7 +24,8 @@ impl Model for TransactionsFile {
 
 impl TransactionsFile {
     ghost use Rattle.std.specs.Prelude.{◌≡◌, ◌≤◌, ◌<◌, ◌+◌, ◌-◌, ◌^◌, ◌++◌, [], ◌∷◌, IsTrue, length, OnOk, OnErr, IfErr, IsErrOf, Ok, Some};
-    ghost use Rattle.store_io.specs.Disk.{Only, OthersStay, Rose};
+    ghost use Rattle.store_io.specs.Disk.{Only, OthersStay};
+    ghost use Rattle.call_counts.specs.Counts.{Rose};
     ghost use Rattle.gated_log.specs.Log.{payloads_of, IsLogOf, IsBeforeOrAfter, Each};
     ghost use Rattle.tx_entry.specs.Entries.{spelling, entry_of};
     ghost use Rattle.transactions_file.specs.Inventory.{allowed, after, creations, inventory_of, IsSound};

@@ -99,8 +99,8 @@ loop-taken-preserved g c =
             λ answers told start stands. c.in_ok-serve_piece.ensures.served answers told start part.0 (g.K.Sink.written c.args.sink.now) (part.3 answers told start stands),
           );
       source_faults = omega (arith, so.source_faults, c.read_piece.ensures.faults);
-      sink_faults = omega (arith, so.sink_faults, c.serve_piece.ensures.sink_faults);
-      disk_faults = omega (arith, so.disk_faults, c.serve_piece.ensures.disk_faults);
+      sink_faults = omega (arith, so.sink_faults, c.serve_piece.ensures.causes.sink_faults);
+      disk_faults = omega (arith, so.disk_faults, c.serve_piece.ensures.causes.disk_faults);
     }
 
 pub loop-taken-init : goal.loop-taken-init

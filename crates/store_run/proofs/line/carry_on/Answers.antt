@@ -42,8 +42,8 @@ returns-in_err-reply-in-Ask-clause-stop g c answers tells clean session kept lin
     (λ full. storage_full fault _ full (λ number is. c.in_err-reply-in-Ask.ensures.full tells number (failed_so fault (storage.Full number) is)))
     (c.in_err-reply-in-Ask.ensures.stop tells clean) asked)
 
-pub returns-in_err-reply-in-Ask-clause-full : goal.returns-in_err-reply-in-Ask-clause-full
-returns-in_err-reply-in-Ask-clause-full g c tells is =
+pub returns-in_err-reply-in-Ask-clause-causes-full : goal.returns-in_err-reply-in-Ask-clause-causes-full
+returns-in_err-reply-in-Ask-clause-causes-full g c tells is =
     let fault = c.in_err-reply-in-Ask.field-0.0 in
     let reads = g.D.Disk.reads c.serve.new.disk in
     storage_full fault (HasFullLog reads) (stopped_full c.from_residual.result (storage_stop fault) c.from_residual.ensures.1 is)

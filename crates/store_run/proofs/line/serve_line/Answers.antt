@@ -130,8 +130,8 @@ steps-preserved g c = record {
   clean = λ tells clean. c.in_ok-given.ensures.clean tells (c.steps.invariant.clean tells clean);
   others = λ tells. others_stay (g.D.Disk.reads c.args.disk.now) (g.D.Disk.reads c.steps.disk) (g.D.Disk.reads c.carry_on.new.disk) (g.D.Disk.leaves c.args.disk.now) (g.D.Disk.leaves c.steps.disk)
       (g.D.Disk.leaves c.carry_on.new.disk) (c.steps.invariant.others tells) (c.in_ok-given.ensures.others tells);
-  disk_faults = omega (arith, c.steps.invariant.disk_faults, c.in_ok-given.ensures.disk_faults);
-  sink_faults = omega (arith, c.steps.invariant.sink_faults, c.in_ok-given.ensures.sink_faults);
+  disk_faults = omega (arith, c.steps.invariant.disk_faults, c.carry_on.ensures.causes.disk_faults);
+  sink_faults = omega (arith, c.steps.invariant.sink_faults, c.carry_on.ensures.causes.sink_faults);
 }
 
 -- ---- the line is answered

@@ -37,8 +37,8 @@ loop-byte-preserved g c =
           subst (λ (l : List ℕ). IsServed start c.serve_byte.new.session c.serve_byte.new.plain (g.D.Disk.reads c.serve_byte.new.disk) l c.serve_byte.new.unended.items written0 (g.K.Sink.written c.serve_byte.new.sink))
           (piece_more read piece i within)
           (c.in_ok-serve_byte.ensures.served answers told start (read ++ take i piece) written0 (so.served answers told start read written0 served));
-      disk_faults = omega (arith, so.disk_faults, c.serve_byte.ensures.disk_faults);
-      sink_faults = omega (arith, so.sink_faults, c.serve_byte.ensures.sink_faults);
+      disk_faults = omega (arith, so.disk_faults, c.serve_byte.ensures.causes.disk_faults);
+      sink_faults = omega (arith, so.sink_faults, c.serve_byte.ensures.causes.sink_faults);
     }
 
 pub returns-clause-served : goal.returns-clause-served

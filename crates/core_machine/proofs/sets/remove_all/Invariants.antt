@@ -1,0 +1,9 @@
+use Rattle.std.proofs.Common.{◌≡◌, ◌≤◌, take, length}
+use Rattle.graph_model.specs.Ids.{remove_all}
+use Rattle.core_machine.proofs.sets.remove_all.Given as goal
+
+abbrev pub invariant-loop-left : goal.invariant-loop-left
+invariant-loop-left l = (l.left ≤ length l.ids) × (remove_all (take l.left l.ids) l.set ≡ remove_all l.ids l.initial.set)
+
+abbrev pub decreases-loop-left : goal.decreases-loop-left
+decreases-loop-left l = l.left
