@@ -1,5 +1,5 @@
 -- What an image shows at the number before a part that is not confirmed.
-use Rattle.std.proofs.Common.{◌≡◌, ℕ, ◌+◌, ◌-◌, ◌≤◌, Bool, List, sym, subst, ◌∙◌, arith}
+use Rattle.std.proofs.Common.{◌≡◌, ℕ, ◌+◌, ◌-◌, List, subst, ◌∙◌, arith}
 use Rattle.channel_files.specs.Chunks.{content_of}
 use Rattle.channel_files.specs.Shows.{Shows, newest_of}
 use Rattle.channel.specs.Core.{last_part, log_next_id, next_before}

@@ -1,10 +1,9 @@
 -- The chunk of a part: whole entities, and where each stands.
-use Rattle.std.proofs.Common.{◌≡◌, ℕ, suc, ◌+◌, ◌-◌, ◌<◌, ◌≤◌, ◌==◌, if◌then◌else◌, Bool, true, false, cond, List, [], ◌∷◌, ◌++◌, map, length, take, Option, Some, None, unwrap_or, option_map, refl, ap, sym, ◌∙◌, arith, length-append, inl, inr}
+use Rattle.std.proofs.Common.{◌≡◌, ℕ, ◌+◌, ◌<◌, ◌≤◌, ◌==◌, if◌then◌else◌, Bool, true, false, cond, List, [], ◌∷◌, ◌++◌, map, length, Option, Some, None, unwrap_or, option_map, refl, ap, sym, ◌∙◌, arith, length-append, inl, inr}
 use Rattle.std.specs.Prelude.{nat_eq, nat_lt}
 use Rattle.std.specs.List.{AllByRecursion, flat_map}
 use Rattle.std.specs.Option.{option_or}
 use Rattle.std.proofs.lemmas.Bool.{and_parts, ltb-true, eqb-true, eq-eqb, ne_eqb, cases_eq, cond-false}
-use Rattle.std.proofs.lemmas.List.{take_at}
 use Rattle.field_bytes.specs.Fields.{number_at}
 use Rattle.graph_model.specs.Ids.{rises, rises_from}
 use Rattle.graph_model.specs.Graph.{entity_size, ids}
@@ -12,11 +11,11 @@ use Rattle.graph_model.specs.Stores.{total_size}
 use Rattle.graph_model.specs.declared.entity.Record.{Record}
 use Rattle.entity_form.specs.declared.places.Header.{Header}
 use Rattle.entity_form.proofs.Spellings.{length-entity_bytes}
-use Rattle.data_file.specs.Chunks.{IsEntity, IsChunk, entities_from, entities_of}
+use Rattle.data_file.specs.Chunks.{IsEntity, IsChunk, entities_of}
 use Rattle.channel_files.specs.declared.place.Place.{Place}
 use Rattle.channel_files.specs.Heads.{chunk_of}
 use Rattle.channel_files.specs.Table.{Occurrence, occurrence, occurrences_from, last_of, occurrences_of}
-use Rattle.channel_files.proofs.NumbersInFront.{number_in_front, number_there}
+use Rattle.channel_files.proofs.NumbersInFront.{number_there}
 use Rattle.channel_files.proofs.WholeEntities.{first_entity}
 use Rattle.channel.specs.Entities.{chunk_for}
 use Rattle.channel.specs.Parts.{IsRightRecord}

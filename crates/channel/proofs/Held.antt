@@ -1,5 +1,5 @@
 -- What images show of a channel follows from what its disk holds.
-use Rattle.std.proofs.Common.{◌≡◌, ◌≢◌, ◌≤◌, ◌+◌, ◌-◌, ◌==◌, ℕ, Bool, true, false, cond, List, [], ◌∷◌, take, drop, option_map, Option, Some, None, refl, sym, ap, subst, ◌∙◌, arith}
+use Rattle.std.proofs.Common.{◌≡◌, ◌≤◌, ◌+◌, ◌-◌, ◌==◌, ℕ, Bool, true, false, cond, List, [], ◌∷◌, take, drop, Option, Some, None, refl, sym, ap, subst, ◌∙◌, arith}
 use Rattle.std.specs.Prelude.{IsSomeAnd}
 use Rattle.std.specs.List.{AllByRecursion}
 use Rattle.std.proofs.lemmas.Bool.{eq-eqb, false≢true}
@@ -9,7 +9,7 @@ use Rattle.graph_model.specs.declared.entity.Record.{Record}
 use Rattle.data_file.specs.Chunks.{entities_of}
 use Rattle.channel_files.specs.Channel.{Channel}
 use Rattle.channel_files.specs.Chunks.{Range, content_of}
-use Rattle.channel.specs.ChunkRule.{HasRightChunks, IsRightRange, ranges_to}
+use Rattle.channel.specs.ChunkRule.{IsRightRange, ranges_to}
 use Rattle.channel.specs.Core.{last_part, log_next_id, next_before}
 use Rattle.channel.specs.Holding.{AreAlike, AreBothAlike, HasGained, Holding, KeepsHolding, holding, holding_in}
 use Rattle.channel.specs.Images.{Image}

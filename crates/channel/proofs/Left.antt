@@ -1,7 +1,6 @@
 -- What each image has of a channel that stands for the same as before.
-use Rattle.std.proofs.Common.{◌≡◌, ◌≢◌, ◌⊎◌, inl, inr, ℕ, ◌+◌, ◌-◌, Bool, true, false, List, [], ◌∷◌, ◌++◌, Option, Some, None, IsTrue, IfSome, refl, sym, ap, subst, ◌∙◌}
+use Rattle.std.proofs.Common.{◌≡◌, ◌≢◌, inl, inr, ℕ, ◌+◌, ◌-◌, Bool, true, false, List, [], ◌∷◌, ◌++◌, Option, Some, None, IsTrue, IfSome, refl, sym, ap, subst, ◌∙◌}
 use Rattle.std.specs.Prelude.{IsSomeAnd}
-use Rattle.std.proofs.lemmas.Bool.{false≢true}
 use Rattle.store_io.specs.Whole.{EachImage, IsImage}
 use Rattle.gated_log.specs.State.{LogState}
 use Rattle.gated_log.specs.Log.{Each, IsLogOf, payloads_of}
@@ -16,7 +15,7 @@ use Rattle.channel_files.specs.Images.{EachAsRead}
 use Rattle.channel.specs.Core.{bytes_at, core_of, last_part, log_next_id, next_before, payloads_kept, table_in, types_kept}
 use Rattle.channel.specs.Entities.{entity_in}
 use Rattle.channel.specs.Left.{EndsAsHeld, EndsOrTried, HasTriedPart, HoldsOrTried, HoldsTried, IsLeft}
-use Rattle.channel.specs.OnDisk.{AgreesWithImages, HasAll, HasRecords, HoldsChannel, HoldsPart, HoldsWith, IsOnDisk, WasThere, entity_at}
+use Rattle.channel.specs.OnDisk.{AgreesWithImages, HasAll, HasRecords, HoldsChannel, HoldsPart, HoldsWith, WasThere, entity_at}
 use Rattle.channel.specs.Sound.{IsSound}
 use Rattle.channel.specs.State.{ChannelState}
 use Rattle.channel_files.specs.Chunks.{content_of}

@@ -1,19 +1,19 @@
 -- What is left of a channel after a write that failed.
-use Rattle.std.proofs.Common.{◌≡◌, ◌≢◌, ◌⊎◌, inl, inr, ℕ, ◌+◌, ◌-◌, ◌≤◌, Bool, List, [], ◌∷◌, ◌++◌, Option, Some, None, Result, IsTrue, IfSome, refl, sym, ap, subst, ◌∙◌}
+use Rattle.std.proofs.Common.{◌≡◌, ◌⊎◌, inl, inr, ℕ, ◌+◌, ◌-◌, ◌≤◌, Bool, List, [], ◌∷◌, ◌++◌, Option, Some, Result, IsTrue, IfSome, refl, sym, ap, subst, ◌∙◌}
 use Rattle.std.specs.Prelude.{IsSomeAnd}
 use Rattle.store_io.specs.Whole.{EachImage, IsImage}
 use Rattle.gated_log.specs.State.{LogState}
 use Rattle.graph_model.specs.declared.entity.Record.{Record}
 use Rattle.core_steps.specs.declared.state.CoreChannel.{CoreChannel}
 use Rattle.core_steps.specs.declared.unit.Ending.{Ending}
-use Rattle.core_steps.specs.Told.{Tried, TriedPart, TriedType}
+use Rattle.core_steps.specs.Told.{TriedPart, TriedType}
 use Rattle.transactions_file.specs.Transactions.{Transactions}
 use Rattle.channel_files.specs.declared.fault.FilesFault.{FilesFault}
 use Rattle.channel_files.specs.declared.place.Place.{Place}
 use Rattle.channel_files.specs.Channel.{Channel}
 use Rattle.channel_files.specs.Outcomes.{FileStays, IsStored}
 use Rattle.entity_index.specs.declared.row.Row.{Row}
-use Rattle.channel.specs.Core.{bytes_at, core_of, last_part, log_next_id, payloads_kept, types_kept}
+use Rattle.channel.specs.Core.{last_part, log_next_id, payloads_kept, types_kept}
 use Rattle.channel.specs.Entities.{chunk_for, entity_in}
 use Rattle.std.specs.List.{AllByRecursion}
 use Rattle.channel.specs.ChunkRule.{IsOwn}
@@ -25,7 +25,7 @@ use Rattle.channel_files.specs.Shows.{Shows, newest_of}
 use Rattle.channel_files.proofs.Appended.{as_read_holds, shows_whole}
 use Rattle.channel.proofs.Before.{before_shown}
 use Rattle.channel.proofs.ShownParts.{ends_or_has}
-use Rattle.channel.specs.OnDisk.{AgreesWithImages, HoldsChannel, HoldsPart, HoldsWith, IsOnDisk, Stands, entity_at, row_before}
+use Rattle.channel.specs.OnDisk.{AgreesWithImages, HoldsPart, HoldsWith, IsOnDisk, Stands, entity_at}
 use Rattle.channel.specs.Parts.{IsPart}
 use Rattle.channel.specs.State.{ChannelState}
 use Rattle.channel.proofs.Left.{StandsForSame, channel_same, ends_same, has_part_same, holds_same, part_same}

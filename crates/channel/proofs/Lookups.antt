@@ -9,13 +9,13 @@ use Rattle.field_bytes.proofs.Laws.{IsBytes}
 use Rattle.graph_model.specs.Graph.{entity_of, lists}
 use Rattle.graph_model.specs.declared.entity.Entity.{Entity}
 use Rattle.entity_form.specs.declared.places.Header.{Header}
-use Rattle.entity_form.specs.Spelling.{IsHeaderOf, entity_bytes}
+use Rattle.entity_form.specs.Spelling.{IsHeaderOf}
 use Rattle.channel_files.specs.Whole.{HasWholeChunks, header_of}
 use Rattle.data_file.specs.Headers.{BeginsWith}
 use Rattle.entity_index.specs.declared.row.Row.{Row}
 use Rattle.channel.specs.declared.fault.ChannelFault.{ChannelFault}
 use Rattle.channel.specs.declared.fault.ChannelFault.TheVariants as fault
-use Rattle.channel.specs.Entities.{IsSpelling, entity_in}
+use Rattle.channel.specs.Entities.{AreBytesOf, IsSpelling, entity_in}
 use Rattle.channel.specs.Core.{bytes_at, table_in}
 use Rattle.channel.specs.OnDisk.{Stands}
 use Rattle.channel.proofs.Spelled.{header_in_front, spells_itself}
@@ -70,8 +70,8 @@ spelled_as_read out h id fits within long right id_is begins =
     let there : header_of bytes ≡ h = header_in_front out h.length h long within begins in
     let right_there : IsHeaderOf (header_of bytes) (length bytes) = subst (λ (x : Header). IsHeaderOf x (length bytes)) (sym there) (subst (IsHeaderOf h) (sym long_is) right) in (
       entity_in bytes,
-      spells_itself bytes (front_fits h.length out fits) (omega (arith, long_is, long)) right_there
-          ∙ ap (λ (x : ℕ). entity_bytes (x, entity_in bytes)) (ap (λ (x : Header). x.id) there ∙ id_is),
+      subst (λ (x : ℕ). AreBytesOf x (entity_in bytes) bytes) (ap (λ (x : Header). x.id) there ∙ id_is)
+          (spells_itself bytes (front_fits h.length out fits) (omega (arith, long_is, long)) right_there),
     )
 
 module _ (reads : ℕ → List ℕ) (rows : FinMap nat_cmp Row) (number id : ℕ) (row : Row) (is : get rows id ≡ Some row) (whole : HasWholeChunks reads) (stands : Stands reads number id row)
@@ -82,17 +82,17 @@ module _ (reads : ℕ → List ℕ) (rows : FinMap nat_cmp Row) (number id : ℕ
   length_is : length bytes ≡ row.header.length
   length_is = row_length reads number id row whole stands
 
-  spelled_there : IsBytes bytes → bytes ≡ entity_bytes (id, entity_in bytes)
+  spelled_there : IsBytes bytes → AreBytesOf id (entity_in bytes) bytes
   spelled_there fits =
       let right : IsHeaderOf (header_of bytes) (length bytes) =
       subst (λ (h : Header). IsHeaderOf h (length bytes)) (sym stands.header) (subst (IsHeaderOf row.header) (sym length_is) header) in
-      spells_itself bytes fits (omega (arith, length_is, header.4)) right
-      ∙ ap (λ (id : ℕ). entity_bytes (id, entity_in bytes)) (ap (λ (h : Header). h.id) stands.header ∙ id_is)
+      subst (λ (x : ℕ). AreBytesOf x (entity_in bytes) bytes) (ap (λ (h : Header). h.id) stands.header ∙ id_is)
+      (spells_itself bytes fits (omega (arith, length_is, header.4)) right)
 
   -- the bytes that were read are the spelling of the table's entity
   pub entity_read : (out : List ℕ) → IsBytes out → take row.header.length out ≡ bytes_at reads row
-      → IsSomeAnd (entity_of (table_in reads rows) id) (λ e. take row.header.length out ≡ entity_bytes (id, e))
+      → IsSomeAnd (entity_of (table_in reads rows) id) (λ e. AreBytesOf id e (take row.header.length out))
   entity_read out fits read =
-      subst (λ (o : Option Entity). IsSomeAnd o (λ e. take row.header.length out ≡ entity_bytes (id, e)))
+      subst (λ (o : Option Entity). IsSomeAnd o (λ e. AreBytesOf id e (take row.header.length out)))
       (sym (entity_of_table reads rows id ∙ ap (λ (o : Option Row). option_map (entity_under reads) o) is))
-      (read ∙ spelled_there (subst IsBytes read (front_fits row.header.length out fits)))
+      (subst (AreBytesOf id (entity_in bytes)) (sym read) (spelled_there (subst IsBytes read (front_fits row.header.length out fits))))

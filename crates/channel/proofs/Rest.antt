@@ -1,10 +1,9 @@
 -- Rows of an Idle channel, and rows that are pinned or not.
-use Rattle.std.proofs.Common.{◌≡◌, ◌≤◌, ◌+◌, ℕ, Bool, true, false, not, List, [], ◌∷◌, Option, Some, None, inl, inr, refl, sym, ap, subst, ◌∙◌, arith}
+use Rattle.std.proofs.Common.{◌≡◌, ℕ, Bool, true, false, not, List, [], Option, Some, None, inl, inr, refl, sym, ap, ◌∙◌, arith}
 use Rattle.std.proofs.lemmas.Bool.{cases_eq}
 use Rattle.std.specs.Option.{option_map_or}
 use Rattle.std.specs.Ordering.{nat_cmp}
 use Rattle.std.specs.FinMap.{FinMap, get, insert}
-use Rattle.graph_model.specs.Ids.{has}
 use Rattle.oid_table.specs.MapLaws.{get-insert_same, get-insert_other}
 use Rattle.core_steps.specs.Core.{Hand, is_idle}
 use Rattle.core_steps.specs.Rows.{marks_pin, part_marked}

@@ -17,7 +17,7 @@ use Rattle.entity_form.proofs.Spellings.{BeginsWithHeader, entity_read, length-e
 use Rattle.channel_files.specs.Whole.{header_of}
 use Rattle.data_file.specs.Headers.{BeginsWith}
 use Rattle.channel_files.proofs.NumbersInFront.{number_in_front, number_there}
-use Rattle.channel.specs.Entities.{numbers_in, entity_in, header_for, chunk_for}
+use Rattle.channel.specs.Entities.{AreBytesOf, numbers_in, entity_in, header_for, chunk_for}
 use Rattle.channel.specs.Parts.{IsRightRecord, records_in}
 
 -- the bytes of a record
@@ -184,7 +184,7 @@ header_begins bytes long =
     }
 
 -- bytes that begin with a right header spell the entity that is read from them
-pub spells_itself : (bytes : List ℕ) → IsBytes bytes → 32 ≤ length bytes → IsHeaderOf (header_of bytes) (length bytes) → bytes ≡ entity_bytes ((header_of bytes).id, entity_in bytes)
+pub spells_itself : (bytes : List ℕ) → IsBytes bytes → 32 ≤ length bytes → IsHeaderOf (header_of bytes) (length bytes) → AreBytesOf (header_of bytes).id (entity_in bytes) bytes
 spells_itself bytes fits long is =
     let h = header_of bytes in
     let behind = drop 32 bytes in
@@ -192,7 +192,8 @@ spells_itself bytes fits long is =
     let plain = drop (32 + 8 * h.count) bytes in
     let numbers : AreNumbers h.count behind = are_numbers h.count behind (IsBytes-drop 32 bytes fits) (omega (arith, is.4, length-drop 32 bytes)) in
     let parts : behind ≡ numbers_bytes refs ++ plain = numbers.spelled_so ∙ ap (λ (t : List ℕ). numbers_bytes refs ++ t) (drop-drop (8 * h.count) 32 bytes) in
-    (entity_read bytes refs plain h fits (IsBytes-drop (32 + 8 * h.count) bytes fits) (header_begins bytes long) long is parts (length-numbers_in h.count behind) numbers.fit).1
+    let read = entity_read bytes refs plain h fits (IsBytes-drop (32 + 8 * h.count) bytes fits) (header_begins bytes long) long is parts (length-numbers_in h.count behind) numbers.fit in
+    record { entity = read.0; spelled = read.1 }
 
 -- ---- parts
 

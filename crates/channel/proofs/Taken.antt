@@ -1,11 +1,11 @@
 -- What a stored part makes of what the disk holds.
-use Rattle.std.proofs.Common.{◌≡◌, ℕ, ◌+◌, ◌-◌, ◌==◌, Bool, false, cond, List, [], ◌∷◌, ◌++◌, length, option_map, Option, Some, None, sym, ap, subst, ◌∙◌, arith, rules}
+use Rattle.std.proofs.Common.{◌≡◌, ℕ, ◌+◌, ◌-◌, ◌==◌, Bool, false, cond, List, [], ◌∷◌, ◌++◌, option_map, Some, None, sym, ap, subst, ◌∙◌, arith}
 use Rattle.std.specs.Prelude.{IsSomeAnd}
 use Rattle.std.proofs.lemmas.Bool.{ne_eqb}
 use Rattle.graph_model.specs.declared.entity.Record.{Record}
 use Rattle.channel_files.specs.declared.place.Place.{Place}
 use Rattle.channel_files.specs.Channel.{Channel}
-use Rattle.channel_files.specs.Chunks.{Chunk, content_of}
+use Rattle.channel_files.specs.Chunks.{content_of}
 use Rattle.channel_files.specs.Heads.{chunk_of}
 use Rattle.channel.specs.Core.{last_part, log_next_id, next_before}
 use Rattle.channel.specs.Entities.{chunk_for}

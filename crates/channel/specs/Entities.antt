@@ -6,7 +6,7 @@ use Rattle.graph_model.specs.Graph.{entity_size}
 use Rattle.graph_model.specs.declared.entity.Entity.{Entity}
 use Rattle.graph_model.specs.declared.entity.Record.{Record}
 use Rattle.entity_form.specs.declared.places.Header.{Header}
-use Rattle.entity_form.specs.Spelling.{entity_bytes}
+use Rattle.entity_form.specs.Spelling.{IsEntity, entity_bytes}
 use Rattle.channel_files.specs.Whole.{header_of}
 
 -- so many numbers of eight bytes each, the lowest byte first
@@ -30,6 +30,11 @@ header_for r = record { length = entity_size r.entity; type_id = r.entity.type_i
 abbrev pub chunk_for : List Record → List ℕ
 chunk_for records = flat_map (λ (r : Record). entity_bytes (r.id, r.entity)) records
 
+-- this is an entity that has a spelling under this id, and the bytes are that
+pub record AreBytesOf (id : ℕ) (e : Entity) (bytes : List ℕ) : Type 0 where
+  pub entity : IsEntity (id, e)
+  pub spelled : bytes ≡ entity_bytes (id, e)
+
 -- the bytes spell an entity of this id
 abbrev pub IsSpelling : ℕ → List ℕ → Type 0
-IsSpelling id bytes = (e : Entity) × (bytes ≡ entity_bytes (id, e))
+IsSpelling id bytes = (e : Entity) × AreBytesOf id e bytes

@@ -16,4 +16,5 @@ pub mod Left
 pub mod Turns
 pub mod Stages
 pub mod Given
+pub mod Types
 pub mod Holding

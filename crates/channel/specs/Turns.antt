@@ -1,5 +1,5 @@
 -- What a call leaves of what a unit tells, whether or not its disk tells what it reads.
-use Rattle.std.specs.Prelude.{◌≡◌, ◌⊎◌, ℕ, ◌^◌, true, None}
+use Rattle.std.specs.Prelude.{◌≡◌, ◌⊎◌, ◌^◌, true, None}
 use Rattle.core_steps.specs.declared.unit.Ending.{Ending}
 use Rattle.core_steps.specs.declared.unit.Ending.TheVariants.{Sound, Fault, Full, Broken}
 use Rattle.core_steps.specs.Told.{GoesOn, Told}

@@ -2,9 +2,8 @@
 ghost use Rattle.std.specs.Prelude.{◌≡◌, ◌≤◌, ◌⊎◌, ◌↔◌, true, false, IsTrue, length, take, IfOk, IfErr, OnOk, IsErrOf, IsSomeAnd};
 ghost use Rattle.call_counts.specs.Counts.{Rose, raised};
 ghost use Rattle.graph_model.specs.Graph.{entity_of, lists};
-ghost use Rattle.entity_form.specs.Spelling.{entity_bytes};
 ghost use Rattle.channel.specs.Core.{core_of, told_of};
-ghost use Rattle.channel.specs.Entities.{IsSpelling};
+ghost use Rattle.channel.specs.Entities.{AreBytesOf, IsSpelling};
 ghost use Rattle.channel.specs.Turns.{IsTurn};
 ghost use Rattle.channel.specs.Holding.{holding};
 ghost use Rattle.channel.specs.Faults.{IsFaultOf, IsGoneOrFault, ending_after, failed_after};
@@ -22,8 +21,8 @@ impl<D: Disk> Channel<D> {
     pub fn lookup(&mut self, id: u64, out: &mut [u8]) -> Result<usize, ChannelFault>
         requires room { 1048576 ≤ length out.old }
 
-        ensures entity { IsTrue D.tells → IfOk result (λ n. IsSomeAnd (entity_of (core_of D.reads self.old).table id) (λ e. take n out.new ≡ entity_bytes (id, e))) }
-        // On any disk it is an entity of that id in its bytes.
+        ensures entity { IsTrue D.tells → IfOk result (λ n. IsSomeAnd (entity_of (core_of D.reads self.old).table id) (λ e. AreBytesOf id e (take n out.new))) }
+        // On any disk it is an entity of that id in its bytes, which can be read from them.
         ensures spelled { IfOk result (λ n. IsSpelling id (take n out.new)) }
         ensures within { IfOk result (λ n. n ≤ length out.new) }
         ensures gone { IsErrOf result (ChannelFault.Gone id) ↔ (lists (core_of D.reads self.old).table id ≡ false) }

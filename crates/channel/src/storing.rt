@@ -104,6 +104,9 @@ impl<D: Disk> Channel<D> {
         ensures stored { OnOk result (self.new.prepared ≡ None) }
         ensures given { OnOk result (IfSome self.old.prepared (λ part. HasGiven self.old.number (length part) hand.old hand.new)) }
 
+        // A channel that is Idle spends nothing on marking.
+        ensures credit_stays { is_idle (core_of D.reads self.old).phase ≡ true → hand.new.credit ≡ hand.old.credit }
+
         ensures turn { IsTurn (told_of D.tells D.reads D.faults self.old) (told_of D.tells D.reads D.faults self.new) }
 
         // A refusal is no event.

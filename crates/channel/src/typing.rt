@@ -1,5 +1,5 @@
 //! A type record is kept.
-ghost use Rattle.std.specs.Prelude.{◌≡◌, ◌≤◌, ◌⊎◌, ◌++◌, [], ◌∷◌, ℕ, true, false, None, Some, IsTrue, length, take, OnOk, OnErr, IfErr, IfSome, IsErrOf};
+ghost use Rattle.std.specs.Prelude.{◌≡◌, ◌≤◌, ◌⊎◌, ◌++◌, [], ◌∷◌, ℕ, true, false, None, Some, IsTrue, length, take, OnOk, OnErr, IfErr, IfSome, IsSomeAnd, IsErrOf};
 ghost use Rattle.call_counts.specs.Counts.{Rose};
 ghost use Rattle.store_io.specs.Whole.{EachImage};
 ghost use Rattle.core_steps.specs.Told.{TriedType};
@@ -9,6 +9,7 @@ ghost use Rattle.channel.specs.Core.{core_of, last_part, log_next_id, told_of, t
 ghost use Rattle.channel.specs.Turns.{IsTurn};
 ghost use Rattle.channel.specs.Holding.{holding};
 ghost use Rattle.channel.specs.Shown.{EndsAt, disk_held};
+ghost use Rattle.channel.specs.Types.{IsSameLog};
 ghost use Rattle.channel.specs.Faults.{UnlessFault, ending_after, failed_after};
 ghost use Rattle.channel.specs.OnDisk.{HoldsChannel, HoldsWith};
 
@@ -45,6 +46,7 @@ impl<D: Disk> Channel<D> {
             → EachImage (D.leaves self.new.files.disk) (EndsAt self.old.channels self.old.number (last_part self.old) (log_next_id self.old) (disk_held D.reads self.old)) }
         ensures turn { IsTurn (told_of D.tells D.reads D.faults self.old) (told_of D.tells D.reads D.faults self.new) }
         ensures holding { IsTrue D.tells → holding D.reads self.new ≡ holding D.reads self.old }
+        ensures types_header { IfSome self.old.types (λ log. IsSomeAnd self.new.types (λ after. IsSameLog log after)) }
         ensures tried { self.old.failed ≡ false → IsErrOf result ChannelFault.Fault → self.new.tried ≡ Some (TriedType text.now) }
         ensures not_tried { UnlessFault result (self.new.tried ≡ self.old.tried) }
         ensures rest { self.new ≡ record self.old {

@@ -5,7 +5,7 @@ use Rattle.gated_log.specs.State.{LogState}
 use Rattle.core_steps.specs.Told.{TriedType}
 use Rattle.channel.specs.Attempts.{tried_of}
 use Rattle.channel.proofs.Sounds.{sound_refused, room_refused}
-use Rattle.channel.proofs.Typed.{ends_typed, TypeCall, sound_typed, room_typed, core_typed, images_typed, log_at_full, images_at_full, not_kept, stop_typed, synced_log, unless_full, written_over}
+use Rattle.channel.proofs.Typed.{ends_typed, TypeCall, sound_typed, room_typed, core_typed, images_typed, log_at_full, images_at_full, not_kept, stop_typed, synced_log, written_over}
 use Rattle.channel.proofs.Left.{left_refused}
 use Rattle.channel.proofs.LeftWrites.{ends_now, left_typed}
 use Rattle.transactions_file.specs.Transactions.{Transactions}
