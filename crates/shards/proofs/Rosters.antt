@@ -1,22 +1,19 @@
 -- Passes that come and go keep the rule.
-use Rattle.std.proofs.Common.{◌≡◌, ◌≢◌, ◌⊎◌, ℕ, zero, suc, ◌+◌, ◌<◌, ◌≤◌, Bool, true, false, List, [], ◌∷◌, ◌++◌, map, length, get_or, set, sym, refl, ap, ◌∙◌, subst, ⊎_elim, inl, inr, arith, Option, Some, None, length-set, length-append}
+use Rattle.std.proofs.Common.{◌≡◌, ◌≢◌, ◌⊎◌, ℕ, zero, suc, ◌+◌, ◌<◌, true, false, List, [], ◌∷◌, ◌++◌, map, length, set, sym, refl, ap, ◌∙◌, subst, ⊎_elim, inl, inr, arith, Option, Some, None, length-set, length-append}
 use Rattle.std.specs.Prelude.{slice_get}
-use mathlib.Core.Logic.{dite}
-use mathlib.Core.Option.{none, some, some-injective, some-ne-none}
-use native.Mathlib.Decide.{ℕ_discrete}
+use mathlib.Core.Option.{some, some-injective, some-ne-none}
 use lib.ListN.{get_elem?}
 use Rattle.atomic_table.specs.Table.{State, Splits, Joins}
-use Rattle.atomic_table.proofs.Lists.{at_set, set_else, at_longer}
-use Rattle.core_steps.specs.declared.event.Event.{Event}
+use Rattle.atomic_table.proofs.Lists.{set_else, at_longer}
 use Rattle.core_steps.specs.declared.event.Step.{Step}
-use Rattle.core_steps.specs.Core.{Core, Hand, new_hand}
-use Rattle.core_steps.specs.Steps.{part_at, steps_by, with_actor}
+use Rattle.core_steps.specs.Core.{Core, new_hand}
+use Rattle.core_steps.specs.Steps.{with_actor}
 use Rattle.core_steps.specs.Told.{Told}
 use Rattle.core_steps.proofs.Actors.{good_actor, no_steps, run_more}
 use Rattle.core_steps.proofs.Settled.{settled_actor}
 use Rattle.shards.specs.Backed.{ActorsKeep}
-use Rattle.shards.specs.Known.{Desk, Ended, Own, Known, dealt, joined_with, newcomer, own_ending, spent}
-use Rattle.shards.specs.Kept.{Assembles, DeskFits, IsAtHomeOrOut, IsCausedThere, IsSeatOf, Kept, Stands}
+use Rattle.shards.specs.Known.{Ended, Own, Known, dealt, joined_with, newcomer, own_ending, spent}
+use Rattle.shards.specs.Kept.{Assembles, DeskFits, IsCausedThere, IsSeatOf, Kept, Stands}
 use Rattle.shards.proofs.Put.{put, put_here, put_else}
 use Rattle.shards.proofs.Parts.{out_stays, set_cases}
 

@@ -1,15 +1,14 @@
 -- Setting the stop and reading it keep the rule.
-use Rattle.std.proofs.Common.{◌≡◌, ◌≢◌, ◌⊎◌, ℕ, ◌+◌, ◌<◌, Bool, true, List, length, get_or, set, sym, refl, ap, ◌∙◌, subst, inl, inr, ⊎_elim, arith, Option, Some, length-set, get_or-set_other, get_or-set_same}
+use Rattle.std.proofs.Common.{◌≡◌, ◌⊎◌, ℕ, ◌<◌, true, List, length, get_or, set, sym, refl, ap, ◌∙◌, subst, arith, Option, length-set, get_or-set_other, get_or-set_same}
 use mathlib.Core.Logic.{dite}
 use mathlib.Core.Option.{none, some}
 use native.Mathlib.Decide.{ℕ_discrete}
 use lib.ListN.{get_elem?}
-use lib.Seq.{set-get_or}
 use Rattle.atomic_table.specs.Table.{State, Me, step, keeps, Allows}
 use Rattle.core_steps.specs.Core.{Core}
 use Rattle.core_steps.specs.Told.{Told}
 use Rattle.shards.specs.Known.{Known, Stop, saw_stop, stopping}
-use Rattle.shards.specs.Kept.{Assembles, IsSeatOf, Kept}
+use Rattle.shards.specs.Kept.{IsSeatOf, Kept}
 use Rattle.shards.specs.Plays.{looked, stopped}
 use Rattle.shards.proofs.Parts.{is_below, out_stays, set_cases}
 use Rattle.shards.proofs.Cores.{assembles_view}

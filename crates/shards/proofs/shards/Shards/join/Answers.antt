@@ -1,4 +1,4 @@
-use Rattle.std.proofs.Common.{rules, arith, ◌≡◌, ◌<◌, sym, ap, ◌∙◌}
+use Rattle.std.proofs.Common.{rules, arith, ◌≡◌, sym, ap, ◌∙◌}
 use Rattle.shards.specs.Known.{Known, PassState, ShardsState, known_in}
 use Rattle.shards.proofs.Rosters.{joins}
 use Rattle.shards.proofs.shards.Shards.join.Goals as goal
