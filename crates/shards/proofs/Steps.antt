@@ -87,7 +87,7 @@ module _ {C : Type 0} (told : C → Told) (backs : Core → List C → Type 0) w
               there = mine.there;
               joined = mine.joined;
               taken = λ i x q. cc;
-              listed = λ z. let g = mine.listed z in (lists_mine told r.units k u' v.desk.lists g.0, g.1, ap (λ (b : Bool). b || is_late h') g.2 ∙ late_own a r.late h' z);
+              listed = λ z. let g = mine.listed z in (lists_mine told r.units k u' v.desk.lists g.0, g.1, ap (λ (b : Bool). b || is_late h') g.2 ∙ late_own a r.late h' z, g.3);
               ended = subst (λ (ts : List Told). IsCausedThere r.all late' r.starts ts w.ended) (sym tolds)
                   (ended_kept r.all r.late late' r.starts (map told r.units) k (told u) (told u') v.ended told_here returns.goes_on more why mine.ended);
               endings = λ i e f. subst (λ (ts : List Told). IsCausedThere r.all late' r.starts ts (Some e)) (sym tolds)
@@ -102,7 +102,7 @@ module _ {C : Type 0} (told : C → Told) (backs : Core → List C → Type 0) w
               joined = q.joined;
               taken = λ c x b. let p = q.taken c x b in let other : c ≢ k = λ z. n (sym p.0 ∙ (ap r.owner z ∙ held.0)) in (p.0, get_or-set_other s.words k c 0 0 other ∙ p.1, set_else r.units k c u' other ∙ p.2);
               listed = λ z. let b = q.listed z in let ne : a ≢ 0 = λ p. let k0 = ap r.keeper (z ∙ sym p) in let k1 = q.keeps in let k2 = mine.keeps in n (omega arith) in
-                  (b.0 ∙ lists_others told r.units k u u' here (returns.others ne), b.1, b.2 ∙ late_other a r.late h' ne);
+                  (b.0 ∙ lists_others told r.units k u u' here (returns.others ne), b.1, b.2 ∙ late_other a r.late h' ne, b.3);
               ended = subst (λ (ts : List Told). IsCausedThere r.all late' r.starts ts y.ended) (sym tolds)
                   (ended_stays r.all r.late late' r.starts (map told r.units) k (told u) (told u') y.ended told_here returns.goes_on more q.ended);
               endings = λ p e z. subst (λ (ts : List Told). IsCausedThere r.all late' r.starts ts (Some e)) (sym tolds)

@@ -32,6 +32,10 @@ listed_each : {C : Type 0} (told : C → Told) (us : List C) → map listed (map
 listed_each told [] = refl
 listed_each told (u ∷ us) = ap (λ (l : List Listed). listed (told u) ∷ l) (listed_each told us)
 
+counts_each : {C : Type 0} (told : C → Told) (us : List C) → map (λ (t : Told). t.faults) (map told us) ≡ map (λ (u : C). (told u).faults) us
+counts_each told [] = refl
+counts_each told (u ∷ us) = ap (λ (l : List ℕ). (told u).faults ∷ l) (counts_each told us)
+
 module _ {C : Type 0} (told : C → Told) (backs : Core → List C → Type 0) (units : List C) (next_id : ℕ) where
   abbrev view : Known C
   view = session_pass (map told units) next_id
@@ -98,7 +102,7 @@ module _ {C : Type 0} (told : C → Told) (backs : Core → List C → Type 0) (
         there = omega arith;
         joined = λ i o f. absurd (some-ne-none o (sym f));
         taken = λ k u f. cc;
-        listed = λ _. (listed_each told units, refl, refl);
+        listed = λ _. (listed_each told units, refl, refl, counts_each told units);
         ended = tt;
         endings = λ i o f. absurd (some-ne-none o (sym f));
         stop = λ z. ⊎_elim (λ (q : false ≡ true). absurd (let bad = q in cc)) (λ (q : false ≡ true). absurd (let bad = q in cc)) z;

@@ -81,7 +81,7 @@ module _ {C : Type 0} (told : C → Told) (backs : Core → List C → Type 0) w
     pub there : v.own.actor < actors
     pub joined : (i : ℕ) (o : Own) → get_elem? v.joined i ≡ some o → (keeper o.actor ≡ 0) × (o.actor < actors)
     pub taken : (k : ℕ) (u : C) → v.taken ≡ Some (k, u) → (owner k ≡ j) × (slice_index words k ≡ 1) × (get_elem? units k ≡ some u)
-    pub listed : v.own.actor ≡ 0 → (v.desk.lists ≡ map (λ (u : C). listed (told u)) units) × (v.desk.made ≡ actors) × (v.desk.late ≡ late)
+    pub listed : v.own.actor ≡ 0 → (v.desk.lists ≡ map (λ (u : C). listed (told u)) units) × (v.desk.made ≡ actors) × (v.desk.late ≡ late) × (v.desk.counts ≡ starts)
     pub ended : IsCausedThere all late starts (map told units) v.ended
     pub endings : (i : ℕ) (e : Ended) → get_elem? v.endings i ≡ some e → IsCausedThere all late starts (map told units) (Some e)
     pub stop : (v.stop.has_set ≡ true) ⊎ (v.stop.has_seen ≡ true) → slice_index words (length units) ≡ 1

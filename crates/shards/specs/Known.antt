@@ -27,8 +27,8 @@ pub record Own : Type 0 where
   pub hand : Hand
   pub mine : List Step
 
--- what only actor 0 knows: the start, the book, the pins of each channel, what is listed of each unit, how many actors there are; whether its hand had
--- a store of a number above 2^63 open behind a turn; the first cycle that it saw after its last store or change of a pin; and, by channel, the last
+-- what only actor 0 knows: the start, the book, the pins of each channel, what is listed of each unit, how many actors there are; how often
+-- each unit's disk had failed at the start; whether its hand had a store of a number above 2^63 open behind a turn; the first cycle that it saw after its last store or change of a pin; and, by channel, the last
 -- cycle of which a turn of it left that channel Idle
 pub record Desk : Type 0 where
   pub start : Core
@@ -36,6 +36,7 @@ pub record Desk : Type 0 where
   pub pins : List (List ℕ)
   pub lists : List Listed
   pub made : ℕ
+  pub counts : List ℕ
   pub late : Bool
   pub since : Option ℕ
   pub idle : List (Option ℕ)
@@ -100,7 +101,7 @@ abbrev pub no_monitor : CoreMonitor
 no_monitor = record { format = 0; cycle = 0; closed = true; begun = []; swept = []; pending = 0; stores_begun = 0; stores_ended = 0 }
 
 abbrev pub no_desk : Desk
-no_desk = record { start = record { channels = []; monitor = no_monitor; hands = []; book = no_book }; book = no_book; pins = []; lists = []; made = 0; late = false; since = None; idle = [] }
+no_desk = record { start = record { channels = []; monitor = no_monitor; hands = []; book = no_book }; book = no_book; pins = []; lists = []; made = 0; counts = []; late = false; since = None; idle = [] }
 
 module _ {C : Type 0} where
   -- a new pass of an actor with a new hand
@@ -164,6 +165,7 @@ session_pass ts next_id = record (newcomer (all_tell ts) (length ts - 1) 0) {
     pins = pins_of (start_in ts next_id).channels;
     lists = map listed ts;
     made = 1;
+    counts = map (λ (t : Told). t.faults) ts;
     late = false;
     since = None;
     idle = replicate (length ts - 1) None;
@@ -242,6 +244,7 @@ desk_then d k t h o = record {
   pins = pins_after d.pins k t.part o;
   lists = set d.lists k (listed t);
   made = d.made;
+  counts = d.counts;
   late = d.late || is_late h;
   since = since_then d.since (book_then d.book o) t.part o;
   idle = idle_then d.idle k t.part;

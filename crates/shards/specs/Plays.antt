@@ -11,7 +11,7 @@ use Rattle.core_steps.specs.Rows.{Part, part_step}
 use Rattle.core_steps.specs.Steps as core
 use Rattle.core_steps.specs.Steps.{part_at, permits, place_in}
 use Rattle.core_steps.specs.Told.{Told, GoesOn, listed}
-use Rattle.shards.specs.Known.{Known, is_late, took, refused, gave}
+use Rattle.shards.specs.Known.{Known, gave, is_late, refused, saw_stop, stopping, took}
 use Rattle.shards.specs.Backed.{next_id_then}
 use Rattle.shards.specs.Due.{IsEarly, NothingIsDue}
 use Rattle.shards.specs.Kept.{DeskFits}
@@ -93,3 +93,12 @@ module _ {C : Type 0} (told : C → Told) (turns : Option Event → C → C → 
   left h moves asks st m n m' = (u u' : C) → m.0.taken ≡ Some (st.word, u) → m.1 ≡ (st.word, Some u') ∷ []
       → (o : Option Event) × Goes m.0 st.word u u' h moves asks o × (m' ≡ (gave m.0 st.word (told u') h o, []))
       × (m.0.tells ≡ true → (e : Event) → o ≡ Some e → Steps m.0 st.word (told u) (told u') h e)
+
+module _ {C : Type 0} where
+  -- the stop was set
+  abbrev pub stopped : Step (Option C) → Me (Option C) (Known C) → ℕ → Me (Option C) (Known C) → Type 0
+  stopped st m n m' = m' ≡ (stopping m.0, m.1)
+
+  -- the stop word read 1, and the view has seen it; or not, and then the view had neither set nor seen it
+  abbrev pub looked : Step (Option C) → Me (Option C) (Known C) → ℕ → Me (Option C) (Known C) → Type 0
+  looked st m n m' = (n ≡ 1 → m' ≡ (saw_stop m.0, m.1)) × (n ≢ 1 → m' ≡ m) × ((m.0.stop.has_set ≡ true) ⊎ (m.0.stop.has_seen ≡ true) → n ≡ 1)

@@ -4,7 +4,9 @@
 mod making;
 mod passes;
 mod plays;
+mod roster;
 mod shards;
+mod stop;
 mod turns;
 mod unit;
 

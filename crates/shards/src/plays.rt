@@ -1,5 +1,5 @@
 // What each step on the table tells.
-ghost use Rattle.shards.specs.Plays.{left, tried};
+ghost use Rattle.shards.specs.Plays.{left, looked, stopped, tried};
 
 use crate::passes::View;
 use crate::unit::BackedUnit;
@@ -42,4 +42,16 @@ pub(crate) struct Leave<G> {
 
 impl<C: BackedUnit, G: Given> Play<Option<C>, View<C>> for Leave<G> {
     ghost then = { left C.told C.turns G.hand G.moves G.asks };
+}
+
+pub(crate) struct SetStop;
+
+impl<C> Play<Option<C>, View<C>> for SetStop {
+    ghost then = { stopped };
+}
+
+pub(crate) struct ReadStop;
+
+impl<C> Play<Option<C>, View<C>> for ReadStop {
+    ghost then = { looked };
 }
