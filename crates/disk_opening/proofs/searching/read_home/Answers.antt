@@ -1,0 +1,16 @@
+-- The entity of an id is read from the disk of its channel.
+use Rattle.std.proofs.Common.{◌≡◌, ◌∙◌, Some, ap, sym}
+use Rattle.disk_opening.specs.RowTables.{rows_in, tables_in}
+use Rattle.disk_opening.specs.SearchFaults.{IsFaultOf}
+use Rattle.disk_opening.proofs.HomeRows.{form_fault, handed_on, home_row, read_fault, table_none, table_row}
+use Rattle.disk_opening.proofs.searching.read_home.Goals as goal
+
+pub read_at-requires-clause-row : goal.read_at-requires-clause-row
+read_at-requires-clause-row g c =
+    let found = c.in-Some.ensures in
+    c.requires.rows c.in-Some.home c.args.id c.in-Some.row (home_row c.args.indexes.now c.args.id c.in-Some.home c.in-Some.row found.home found.row)
+
+pub read_at-requires-clause-there : goal.read_at-requires-clause-there
+read_at-requires-clause-there g c tells =
+    let found = c.in-Some.ensures in
+    c.requires.there tells c.in-Some.home c.args.id c.in-Some.row (home_row c.args.indexes.now c.args.id c.in-Some.home c.in-Some.row found.home found.row)
