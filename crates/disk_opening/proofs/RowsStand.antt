@@ -4,10 +4,8 @@ use Rattle.std.specs.List.{AllByRecursion, flat_map}
 use Rattle.std.specs.FinMap.{get}
 use Rattle.std.proofs.lemmas.List.{take-take, drop-take, drop-drop}
 use Rattle.gated_log.specs.Log.{payloads_of}
-use Rattle.data_file.specs.Chunks.{IsEntity}
 use Rattle.channel_files.specs.Chunks.{Chunk, Range, chunk_at, ranges_of}
 use Rattle.channel_files.specs.Table.{Occurrence, last_of, occurrences_of, table_of, up_to}
-use Rattle.channel_files.specs.Whole.{header_of}
 use Rattle.channel_files.proofs.EntitiesStand.{StandsIn, entities_stand}
 use Rattle.channel_files.proofs.FoundEntities.{IsThere, header_there, length_told}
 use Rattle.channel_files.proofs.TableEntries.{OfEach, table_found}
@@ -63,14 +61,14 @@ chunks_stand n j next image (r ∷ ranges) right =
 -- only the chunks up to a number count
 up_to-map : (m : ℕ) (image : Image) (ranges : List Range) → up_to m (map (chunk_at image) (filter (λ (r : Range). nat_le r.number m) ranges)) ≡ up_to m (map (chunk_at image) ranges)
 up_to-map m image [] = refl
-up_to-map m image (r ∷ ranges) = by (nat_le r.number m) refl
+up_to-map m image (r ∷ ranges) = by (up_to-map m image ranges) (nat_le r.number m) refl
   where
-    by : (b : Bool) → nat_le r.number m ≡ b
+    by : up_to m (map (chunk_at image) (filter (λ (q : Range). nat_le q.number m) ranges)) ≡ up_to m (map (chunk_at image) ranges) → (b : Bool) → nat_le r.number m ≡ b
         → up_to m (map (chunk_at image) (cond b (r ∷ filter (λ (q : Range). nat_le q.number m) ranges) (filter (λ (q : Range). nat_le q.number m) ranges)))
         ≡ cond b (chunk_at image r ∷ up_to m (map (chunk_at image) ranges)) (up_to m (map (chunk_at image) ranges))
-    by true is = ap (λ c. cond c (chunk_at image r ∷ up_to m (map (chunk_at image) (filter (λ (q : Range). nat_le q.number m) ranges))) (up_to m (map (chunk_at image) (filter (λ (q : Range). nat_le q.number m) ranges)))) is
-        ∙ ap (λ cs. chunk_at image r ∷ cs) (up_to-map m image ranges)
-    by false is = up_to-map m image ranges
+    by others true is = ap (λ c. cond c (chunk_at image r ∷ up_to m (map (chunk_at image) (filter (λ (q : Range). nat_le q.number m) ranges))) (up_to m (map (chunk_at image) (filter (λ (q : Range). nat_le q.number m) ranges)))) is
+        ∙ ap (λ cs. chunk_at image r ∷ cs) others
+    by others false is = others
 
 module _ (n j next m : ℕ) (image : Image) (right : HasRightChunks n j next m image) where
   stands : (id : ℕ) (o : Occurrence) → table_of image m id ≡ Some o → StandsThere image o

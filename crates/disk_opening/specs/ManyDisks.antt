@@ -1,5 +1,5 @@
 -- Disks of several channels, before and after calls of some of them.
-use Rattle.std.specs.Prelude.{◌≡◌, ℕ, ◌<◌, ◌≤◌, List, length, map, get_or}
+use Rattle.std.specs.Prelude.{◌≡◌, ℕ, ◌<◌, ◌≤◌, List, length, get_or}
 use Rattle.store_io.specs.Disk.{Rose}
 
 abbrev pub count_at : List ℕ → ℕ → ℕ

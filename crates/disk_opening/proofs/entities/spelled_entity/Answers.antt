@@ -1,5 +1,5 @@
 -- The bytes spell an entity, and it is the one that they are read as.
-use Rattle.std.proofs.Common.{◌≡◌, ◌∙◌, Err, ap, sym, arith}
+use Rattle.std.proofs.Common.{◌∙◌, Err, ap, sym, arith}
 use Rattle.field_bytes.proofs.Laws.{IsBytes}
 use Rattle.channel.specs.Entities.{entity_in}
 use Rattle.channel.proofs.Spelled.{entity_spelled}

@@ -1,8 +1,6 @@
 -- One of the disks is read.
-use Rattle.std.proofs.Common.{◌≡◌, ℕ, List, [], sym, ap, subst}
+use Rattle.std.proofs.Common.{ℕ, [], subst}
 use Rattle.std.proofs.lemmas.Result.{on_ok_weaker}
-use Rattle.channel.specs.Core.{bytes_at}
-use Rattle.channel.specs.Entities.{entity_in}
 use Rattle.channel.specs.Images.{Image}
 use Rattle.disk_opening.specs.RowTables.{IsRowThere}
 use Rattle.disk_opening.proofs.DiskLists.{all_told, one_higher, one_rose, told_at}

@@ -1,8 +1,5 @@
 -- The entity of an id is read from the disk of its channel.
-use Rattle.std.proofs.Common.{◌≡◌, ◌∙◌, Some, ap, sym}
-use Rattle.disk_opening.specs.RowTables.{rows_in, tables_in}
-use Rattle.disk_opening.specs.SearchFaults.{IsFaultOf}
-use Rattle.disk_opening.proofs.HomeRows.{form_fault, handed_on, home_row, read_fault, table_none, table_row}
+use Rattle.disk_opening.proofs.HomeRows.{home_row}
 use Rattle.disk_opening.proofs.searching.read_home.Goals as goal
 
 pub read_at-requires-clause-row : goal.read_at-requires-clause-row

@@ -1,5 +1,5 @@
 -- The ids that are open are looked at one by one.
-use Rattle.std.proofs.Common.{◌≡◌, IsTrue, false, List, [], length, map}
+use Rattle.std.proofs.Common.{◌≡◌, IsTrue, false, [], length, map}
 use Rattle.std.specs.Prelude.{is_some}
 use Rattle.recovery.specs.Searching.{IsSearched}
 use Rattle.disk_opening.specs.RowTables.{row_of, rows_in, tables_in}
