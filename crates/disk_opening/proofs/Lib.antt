@@ -6,3 +6,9 @@ mod FaultsSaid
 mod PassedTypes
 mod ChunksRead
 mod LowFiles
+mod RowsStand
+mod DiskLists
+mod EntitiesRead
+mod SearchSteps
+mod KeySets
+mod HomeRows

@@ -4,3 +4,6 @@ pub mod Ranges
 pub mod LogFaults
 pub mod LogReading
 pub mod TypesReading
+pub mod RowTables
+pub mod ManyDisks
+pub mod SearchFaults
