@@ -1,4 +1,5 @@
 mod Put
+mod Last
 mod Parts
 mod Cores
 mod Rosters

@@ -4,3 +4,4 @@ pub mod Due
 pub mod Kept
 pub mod Plays
 pub mod Making
+pub mod Closing

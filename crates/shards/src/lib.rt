@@ -1,6 +1,7 @@
 //! Turns over shards: units that many threads share, each of which is taken for a turn and given back as one event of the core.
 #![tactic(auto)]
 
+mod closing;
 mod making;
 mod passes;
 mod plays;
