@@ -1,7 +1,14 @@
 //! A fixed region of bytes, out of which blocks are taken.
 #![tactic(auto)]
 
+mod block;
+mod memory;
+mod place;
+mod region;
 mod runs;
 mod tree;
 
-pub use runs::Runs;
+pub use block::Block;
+pub use memory::NoMemory;
+pub use place::UNIT;
+pub use region::Region;
