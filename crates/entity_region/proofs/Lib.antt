@@ -1,3 +1,5 @@
 pub mod RunLemmas
 pub mod TreeLemmas
 pub mod LayoutLemmas
+pub mod ViewLemmas
+pub mod CountLemmas

@@ -1,6 +1,6 @@
 -- How the places of blocks, the units that they have and the free numbers belong together.
 -- No public clause cites this module.
-use Rattle.std.specs.Prelude.{◌≡◌, ◌≢◌, ℕ, zero, suc, ◌+◌, ◌*◌, ◌/◌, ◌<◌, ◌≤◌, ◌⊎◌, Bool, true, false, List, length, take, drop, map, Option, None, Some, is_some, slice_index_or}
+use Rattle.std.specs.Prelude.{◌≡◌, ◌≢◌, ℕ, zero, suc, ◌+◌, ◌*◌, ◌/◌, ◌<◌, ◌≤◌, ◌⊎◌, Bool, true, false, not, List, length, map, Option, None, Some, is_some, slice_index_or}
 use Rattle.std.specs.List.{sum_by, count_by}
 use Rattle.std.specs.Option.{option_map, option_map_or}
 use Rattle.entity_region.specs.declared.runs.Runs.{Runs}
@@ -19,11 +19,11 @@ abbrev pub place_at : List (Option Place) → ℕ → Option Place
 place_at places number = slice_index_or places number None
 
 -- what a contract sees of a block at a place
-abbrev pub placed_in : List ℕ → Place → Placed
-placed_in bytes p = record { at = 16 * p.unit; bytes = take p.len (drop (16 * p.unit) bytes) }
+abbrev pub placed_of : Place → Placed
+placed_of p = record { at = 16 * p.unit; len = p.len }
 
 abbrev pub space_of : List ℕ → List (Option Place) → Space
-space_of bytes places = record { size = length bytes; blocks = map (option_map (placed_in bytes)) places }
+space_of bytes places = record { memory = bytes; blocks = map (option_map placed_of) places }
 
 -- a unit is one of a block's
 pub record IsCovered (places : List (Option Place)) (u : ℕ) : Type 0 where
@@ -54,9 +54,14 @@ pub record AreSpare (numbers : List ℕ) (live : ℕ) (places : List (Option Pla
   pub distinct : (j k : ℕ) → live ≤ j → j < k → k < length numbers → slice_index_or numbers j 0 ≢ slice_index_or numbers k 0
   pub counted : count_by is_some places ≡ live
 
+-- how many units blocks have, and how many are clear
 abbrev pub taken : List (Option Place) → ℕ
 taken places = sum_by (λ place. option_map_or (λ p. units_of p.len) place 0) places
 
+abbrev pub clear_units : List Bool → ℕ
+clear_units units = count_by not units
+
+-- what a region keeps belongs together
 pub record IsSound (bytes : List ℕ) (units : List Bool) (nodes : List Runs) (levels : ℕ) (places : List (Option Place)) (numbers : List ℕ) (live free : ℕ) : Type 0 where
   pub count : ℕ
   pub sized : length bytes ≡ 16 * count
@@ -64,4 +69,5 @@ pub record IsSound (bytes : List ℕ) (units : List Bool) (nodes : List Runs) (l
   pub marked : AreMarked count units places
   pub tree : IsTree levels nodes units
   pub spare : AreSpare numbers live places
-  pub free_is : free + 16 * taken places ≡ length bytes
+  pub counted : taken places + clear_units units ≡ count
+  pub free_is : free ≡ 16 * clear_units units

@@ -10,6 +10,7 @@ use crate::place::{Place, UNIT, units_of};
 use crate::runs::Runs;
 use crate::tree::{fill, first_fit, top};
 use std::marker::Model;
+use std_alloc::vec::run_mut;
 
 /// A fixed region of bytes on the heap, and the blocks that were taken out of it.
 ///
@@ -97,7 +98,7 @@ impl Region {
     {
         let place = place_of(&self.places, block.number);
         let from = UNIT * place.unit;
-        &mut self.bytes[from..from + place.len]
+        run_mut(&mut self.bytes, from, from + place.len)
     }
 
     /// Ends a block. Its hole joins its neighbours.
