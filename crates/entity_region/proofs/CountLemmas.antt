@@ -106,11 +106,11 @@ spare_put numbers live places p spare below =
       none = λ k low high. place_other places number (get_or numbers k 0) (Some p) (spare.distinct live k (omega arith) (omega arith) high) ∙ spare.none k (omega arith) high;
       distinct = λ j k low order high. spare.distinct j k (omega arith) order high;
       counted =
-        let sum : sum_by one (set places number (Some p)) + one (place_at places number) ≡ sum_by one places + 1 = sum_by-set one places number (Some p) None within in
-        let was : one (place_at places number) ≡ 0 = ap one none in
-        let had : sum_by one places ≡ live = spare.counted in
-        let all : sum_by one (set places number (Some p)) ≡ live + 1 = omega arith in
-        all;
+          let sum : sum_by one (set places number (Some p)) + one (place_at places number) ≡ sum_by one places + 1 = sum_by-set one places number (Some p) None within in
+          let was : one (place_at places number) ≡ 0 = ap one none in
+          let had : sum_by one places ≡ live = spare.counted in
+          let all : sum_by one (set places number (Some p)) ≡ live + 1 = omega arith in
+          all;
     }
 
 pub some_live : (numbers : List ℕ) (live : ℕ) (places : List (Option Place)) (i : ℕ) (p : Place) → AreSpare numbers live places → place_at places i ≡ Some p → (0 < live) × (live ≤ length numbers)
@@ -150,9 +150,31 @@ spare_given numbers live places i p spare is =
         | inr behind ↦ rw (there j behind, there k (omega arith)) (spare.distinct j k behind order (omega arith))
       ];
       counted =
-        let sum : sum_by one (set places i None) + one (place_at places i) ≡ sum_by one places + 0 = sum_by-set one places i None None below in
-        let was : one (place_at places i) ≡ 1 = ap one is in
-        let had : sum_by one places ≡ live = spare.counted in
-        let left : sum_by one (set places i None) ≡ live - 1 = omega arith in
-        left;
+          let sum : sum_by one (set places i None) + one (place_at places i) ≡ sum_by one places + 0 = sum_by-set one places i None None below in
+          let was : one (place_at places i) ≡ 1 = ap one is in
+          let had : sum_by one places ≡ live = spare.counted in
+          let left : sum_by one (set places i None) ≡ live - 1 = omega arith in
+          left;
     }
+
+-- a clear run has no more units than are clear
+clear_first : (units : List Bool) (at n k : ℕ) → IsClear units at n → k ≤ length units → min k (at + n) - min k at ≤ sum_by clear_one (take k units)
+clear_first units at n zero clear within = omega arith
+clear_first units at n (suc k) clear within =
+    let before = clear_first units at n k clear (omega arith) in
+    let next : k + 1 ≡ suc k = omega arith in
+    let more = subst (λ m. sum_by clear_one (take m units) ≡ sum_by clear_one (take k units) + clear_one (get_or units k true)) next (sum_by_more clear_one units k true (omega arith)) in
+    elim (cases_lt k at) [
+      | inl below ↦ omega arith
+      | inr low ↦ elim (cases_lt k (at + n)) [
+        | inl high ↦ let one : clear_one (unit_at units k) ≡ 1 = ap clear_one (clear.clear k low high) in omega arith
+        | inr behind ↦ omega arith
+      ]
+    ]
+
+pub clear_count : (units : List Bool) (at n : ℕ) → IsClear units at n → n ≤ clear_units units
+clear_count units at n clear =
+    let inside = clear.inside in
+    let all = clear_first units at n (length units) clear (omega arith) in
+    let whole : sum_by clear_one (take (length units) units) ≡ clear_units units = ap (sum_by clear_one) (take_all (length units) units (omega arith)) in
+    omega arith

@@ -35,7 +35,7 @@ old_or_new places i j p q below is = elim (cases_eq i j) [
 ]
 
 -- a block has none of the units that are clear
-clear_of : (count : ℕ) (units : List Bool) (places : List (Option Place)) (at n j : ℕ) (q : Place) → AreLaidOut count places → AreMarked count units places → IsClear units at n → 0 < n
+pub clear_of : (count : ℕ) (units : List Bool) (places : List (Option Place)) (at n j : ℕ) (q : Place) → AreLaidOut count places → AreMarked count units places → IsClear units at n → 0 < n
     → place_at places j ≡ Some q → (at + n ≤ q.unit) ⊎ (end_unit q ≤ at)
 clear_of count units places at n j q laid_out marked clear some is =
     let some_q = some_units q.len (laid_out.some j q is) in
@@ -97,9 +97,9 @@ marked_put count units new places i p marked below free filled =
     ] in
     let kept : (u : ℕ) → u < count → unit_at units u ≡ true → IsCovered (set places i (Some p)) u =
     λ u inside used.
-        let by = marked.used u inside used in
-        let differs : i ≢ by.number = λ same. let none : place_at places by.number ≡ None = subst (λ k. place_at places k ≡ None) same free in let some = by.is in absurd cc in
-        record { number = by.number; place = by.place; is = place_other places i by.number (Some p) differs ∙ by.is; low = by.low; high = by.high } in
+    let by = marked.used u inside used in
+    let differs : i ≢ by.number = λ same. let none : place_at places by.number ≡ None = subst (λ k. place_at places k ≡ None) same free in let some = by.is in absurd cc in
+    record { number = by.number; place = by.place; is = place_other places i by.number (Some p) differs ∙ by.is; low = by.low; high = by.high } in
     record {
       fits = omega (arith, marked.fits, same_count);
       used = λ u inside used. elim (cases_lt u p.unit) [
@@ -111,19 +111,19 @@ marked_put count units new places i p marked below free filled =
       ];
       clear_in = λ u clear. marked.clear_in u (outside u clear).1;
       clear = λ u clear by.
-        let out = outside u clear in
-        let low = by.low in
-        let high = by.high in
-        elim (old_or_new places i by.number p by.place below by.is) [
-          | inl here ↦
-              let low_p : p.unit ≤ u = subst (λ (x : Place). x.unit ≤ u) (sym here.1) low in
-              let high_p : u < end_unit p = subst (λ (x : Place). u < end_unit x) (sym here.1) high in
-              elim out.0 [
-                | inl before ↦ absurd (omega arith)
-                | inr behind ↦ absurd (omega arith)
-              ]
-          | inr there ↦ marked.clear u out.1 (record { number = by.number; place = by.place; is = there.1; low = low; high = high })
-        ];
+          let out = outside u clear in
+          let low = by.low in
+          let high = by.high in
+          elim (old_or_new places i by.number p by.place below by.is) [
+            | inl here ↦
+                let low_p : p.unit ≤ u = subst (λ (x : Place). x.unit ≤ u) (sym here.1) low in
+                let high_p : u < end_unit p = subst (λ (x : Place). u < end_unit x) (sym here.1) high in
+                elim out.0 [
+                  | inl before ↦ absurd (omega arith)
+                  | inr behind ↦ absurd (omega arith)
+                ]
+            | inr there ↦ marked.clear u out.1 (record { number = by.number; place = by.place; is = there.1; low = low; high = high })
+          ];
     }
 
 -- ---- a block that is taken out
@@ -153,28 +153,28 @@ marked_given count units new places i p laid_out marked is filled =
     let inside_p = laid_out.inside i p is in
     let kept : (u : ℕ) → u < count → unit_at units u ≡ true → (u < p.unit) ⊎ (end_unit p ≤ u) → IsCovered (set places i None) u =
     λ u inside used out.
-        let by = marked.used u inside used in
-        let low = by.low in
-        let high = by.high in
-        let differs : i ≢ by.number = λ same.
-            let at_i : place_at places i ≡ Some by.place = subst (λ k. place_at places k ≡ Some by.place) (sym same) by.is in
-            let same_place : p ≡ by.place = cc in
-            let low_p : p.unit ≤ u = subst (λ (x : Place). x.unit ≤ u) (sym same_place) low in
-            let high_p : u < end_unit p = subst (λ (x : Place). u < end_unit x) (sym same_place) high in
-            elim out [
-              | inl before ↦ absurd (omega arith)
-              | inr behind ↦ absurd (omega arith)
-            ] in
-        record { number = by.number; place = by.place; is = place_other places i by.number None differs ∙ by.is; low = low; high = high } in
+    let by = marked.used u inside used in
+    let low = by.low in
+    let high = by.high in
+    let differs : i ≢ by.number = λ same.
+    let at_i : place_at places i ≡ Some by.place = subst (λ k. place_at places k ≡ Some by.place) (sym same) by.is in
+    let same_place : p ≡ by.place = cc in
+    let low_p : p.unit ≤ u = subst (λ (x : Place). x.unit ≤ u) (sym same_place) low in
+    let high_p : u < end_unit p = subst (λ (x : Place). u < end_unit x) (sym same_place) high in
+    elim out [
+      | inl before ↦ absurd (omega arith)
+      | inr behind ↦ absurd (omega arith)
+    ] in
+    record { number = by.number; place = by.place; is = place_other places i by.number None differs ∙ by.is; low = low; high = high } in
     let apart_from : (u : ℕ) → p.unit ≤ u → u < end_unit p → IsCovered (set places i None) u → ⊥ =
     λ u low high by.
-        let other = old_other places i by.number by.place below by.is in
-        let low_q = by.low in
-        let high_q = by.high in
-        elim (laid_out.apart i by.number p by.place is other.1 other.0) [
-          | inl before ↦ omega arith
-          | inr behind ↦ omega arith
-        ] in
+    let other = old_other places i by.number by.place below by.is in
+    let low_q = by.low in
+    let high_q = by.high in
+    elim (laid_out.apart i by.number p by.place is other.1 other.0) [
+      | inl before ↦ omega arith
+      | inr behind ↦ omega arith
+    ] in
     record {
       fits = omega (arith, marked.fits, same_count);
       used = λ u inside used. elim (cases_lt u p.unit) [

@@ -3,3 +3,4 @@ pub mod TreeLemmas
 pub mod LayoutLemmas
 pub mod ViewLemmas
 pub mod CountLemmas
+pub mod RegionLemmas

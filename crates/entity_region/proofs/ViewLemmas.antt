@@ -68,17 +68,17 @@ free_view bytes places count clear n sized counted is =
 pub disjoint_view : (count : ℕ) (bytes : List ℕ) (places : List (Option Place)) → length bytes ≡ 16 * count → AreLaidOut count places → IsDisjoint (space_of bytes places)
 disjoint_view count bytes places sized laid_out = record {
   inside = λ i p is.
-    let by = seen bytes places i p is in
-    let within = laid_out.inside i by.place by.is in
-    let placed = by.placed in
-    rw placed (omega arith);
+      let by = seen bytes places i p is in
+      let within = laid_out.inside i by.place by.is in
+      let placed = by.placed in
+      rw placed (omega arith);
   apart = λ i j p q first second differs.
-    let by = seen bytes places i p first in
-    let other = seen bytes places j q second in
-    rw (by.placed, other.placed) (elim (laid_out.apart i j by.place other.place by.is other.is differs) [
-      | inl before ↦ inl (omega arith)
-      | inr behind ↦ inr (omega arith)
-    ]);
+      let by = seen bytes places i p first in
+      let other = seen bytes places j q second in
+      rw (by.placed, other.placed) (elim (laid_out.apart i j by.place other.place by.is other.is differs) [
+        | inl before ↦ inl (omega arith)
+        | inr behind ↦ inr (omega arith)
+      ]);
 }
 
 -- a clear run is a hole, and a hole is a clear run
@@ -87,11 +87,11 @@ pub hole_view : (count : ℕ) (bytes : List ℕ) (units : List Bool) (places : L
 hole_view count bytes units places unit n sized laid_out marked some clear apart = record {
   inside = let last = marked.clear_in (unit + (n - 1)) (clear.clear (unit + (n - 1)) (omega arith) (omega arith)) in omega arith;
   clear = λ i p is.
-    let by = seen bytes places i p is in
-    rw by.placed (elim (apart i by.place by.is) [
-      | inl behind ↦ inr (omega arith)
-      | inr before ↦ inl (omega arith)
-    ]);
+      let by = seen bytes places i p is in
+      rw by.placed (elim (apart i by.place by.is) [
+        | inl behind ↦ inr (omega arith)
+        | inr before ↦ inl (omega arith)
+      ]);
 }
 
 pub run_view : (count : ℕ) (bytes : List ℕ) (units : List Bool) (places : List (Option Place)) (at n : ℕ) → length bytes ≡ 16 * count → AreMarked count units places

@@ -73,7 +73,14 @@ impl Region {
             return None;
         }
         let unit = first_fit(self.levels, &self.nodes, &self.units, wanted);
-        fill(self.levels, &mut self.nodes, &mut self.units, unit, unit + wanted, true);
+        fill(
+            self.levels,
+            &mut self.nodes,
+            &mut self.units,
+            unit,
+            unit + wanted,
+            true,
+        );
         let number = self.numbers[self.live];
         self.places[number] = Some(Place { unit, len: n });
         self.live += 1;
@@ -109,7 +116,14 @@ impl Region {
         let number = block.number;
         let place = place_of(&self.places, number);
         let units = units_of(place.len);
-        fill(self.levels, &mut self.nodes, &mut self.units, place.unit, place.unit + units, false);
+        fill(
+            self.levels,
+            &mut self.nodes,
+            &mut self.units,
+            place.unit,
+            place.unit + units,
+            false,
+        );
         self.places[number] = None;
         self.live -= 1;
         self.numbers[self.live] = number;
