@@ -1,14 +1,14 @@
 -- How many units are clear, how many blocks have, and which numbers are free.
-use Rattle.std.proofs.Common.{◌≡◌, ◌≢◌, ℕ, zero, suc, ◌+◌, ◌-◌, ◌*◌, ◌/◌, ◌<◌, ◌≤◌, ◌⊎◌, min, true, false, not, Bool, cond, List, [], ◌∷◌, ◌++◌, length, get_or, set, take, drop, replicate, Option, Some, None, refl, sym, ap, subst, ◌∙◌, arith, inl, inr, length-set}
+use Rattle.std.proofs.Common.{◌≡◌, ◌≢◌, ℕ, zero, suc, ◌+◌, ◌-◌, ◌<◌, ◌≤◌, min, true, false, not, Bool, cond, List, length, get_or, set, take, Option, Some, None, sym, ap, subst, ◌∙◌, arith, inl, inr, length-set}
 use Rattle.std.specs.Prelude.{is_some}
-use Rattle.std.specs.List.{sum_by, count_by}
+use Rattle.std.specs.List.{sum_by}
 use Rattle.std.specs.Option.{option_map_or}
-use Rattle.std.proofs.lemmas.Bool.{cases_lt, cases_eq, cases_Bool}
+use Rattle.std.proofs.lemmas.Bool.{cases_lt, cases_Bool}
 use Rattle.std.proofs.lemmas.List.{get_or-set_same, get_or-set_other, take_all}
 use Rattle.std.proofs.lemmas.List.Sums.{sum_by_more, sum_by-set, count_by-le-length}
 use Rattle.entity_region.specs.declared.place.Place.{Place}
 use Rattle.entity_region.specs.Units.{unit_at, IsClear, IsFilled}
-use Rattle.entity_region.specs.Sound.{units_of, end_unit, place_at, IsCovered, AreLaidOut, AreMarked, AreSpare, taken, clear_units}
+use Rattle.entity_region.specs.Sound.{units_of, end_unit, place_at, AreMarked, AreSpare, taken, clear_units}
 use Rattle.entity_region.proofs.LayoutLemmas.{place_same, place_other, live_below}
 
 abbrev clear_one : Bool → ℕ

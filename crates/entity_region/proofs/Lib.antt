@@ -4,3 +4,5 @@ pub mod LayoutLemmas
 pub mod ViewLemmas
 pub mod CountLemmas
 pub mod RegionLemmas
+pub mod ShapeLemmas
+pub mod NewLemmas

@@ -1,5 +1,5 @@
 -- What a region keeps belongs together once a block was taken or given back.
-use Rattle.std.proofs.Common.{◌≡◌, ◌≢◌, ℕ, zero, suc, ◌+◌, ◌-◌, ◌*◌, ◌/◌, ◌<◌, ◌≤◌, ◌⊎◌, true, false, Bool, List, [], ◌∷◌, ◌++◌, length, get_or, set, take, drop, map, Option, Some, None, refl, sym, ap, subst, ◌∙◌, arith, inl, inr, length-set}
+use Rattle.std.proofs.Common.{◌≡◌, ℕ, ◌+◌, ◌-◌, ◌*◌, ◌/◌, ◌<◌, ◌≤◌, true, false, Bool, List, ◌++◌, length, get_or, set, take, map, Option, Some, None, sym, ap, subst, ◌∙◌, arith}
 use Rattle.std.specs.Prelude.{is_some}
 use Rattle.std.specs.List.{count_by}
 use Rattle.std.specs.Option.{option_map}
@@ -7,11 +7,11 @@ use Rattle.std.proofs.lemmas.List.{map-set, length-map}
 use Rattle.std.proofs.Math.Seq.{take-append_seam}
 use Rattle.entity_region.specs.declared.runs.Runs.{Runs}
 use Rattle.entity_region.specs.declared.place.Place.{Place}
-use Rattle.entity_region.specs.Units.{unit_at, IsClear, IsFirstClear, IsFilled, IsTree, AreRuns}
-use Rattle.entity_region.specs.Space.{Placed, Space, rounded, live, most, block_at, with_block, IsHole, IsTaken, HasNoHole}
-use Rattle.entity_region.specs.Sound.{units_of, end_unit, place_at, placed_of, space_of, AreLaidOut, AreMarked, AreSpare, IsSound, clear_units, taken}
+use Rattle.entity_region.specs.Units.{IsClear, IsFirstClear, IsFilled, IsTree, AreRuns}
+use Rattle.entity_region.specs.Space.{rounded, live, most, with_block, IsHole, IsTaken, HasNoHole}
+use Rattle.entity_region.specs.Sound.{units_of, end_unit, place_at, placed_of, space_of, AreSpare, IsSound, clear_units}
 use Rattle.entity_region.proofs.LayoutLemmas.{clear_of, laid_out_put, marked_put, laid_out_given, marked_given, live_below, some_units}
-use Rattle.entity_region.proofs.CountLemmas.{clear_count, filled_count, cleared_count, block_used, taken_put, taken_given, spare_put, spare_given, some_live}
+use Rattle.entity_region.proofs.CountLemmas.{clear_count, filled_count, cleared_count, block_used, taken_put, taken_given, spare_put, spare_given}
 use Rattle.entity_region.proofs.ViewLemmas.{block_view, hole_view, run_view, live_view}
 
 pub written_back : {A : Type 0} (n : ℕ) (xs ys : List A) → length xs ≡ n → take n (xs ++ ys) ≡ xs

@@ -1,15 +1,15 @@
 -- What a contract sees of a region, from what it keeps.
-use Rattle.std.proofs.Common.{◌≡◌, ◌≢◌, ℕ, zero, suc, ◌+◌, ◌-◌, ◌*◌, ◌/◌, ◌<◌, ◌≤◌, ◌⊎◌, true, false, Bool, cond, List, [], ◌∷◌, ◌++◌, length, get_or, set, take, drop, map, Option, Some, None, refl, sym, ap, subst, ◌∙◌, arith, inl, inr, length-set, length-append, length-drop, drop-drop}
+use Rattle.std.proofs.Common.{◌≡◌, ℕ, ◌+◌, ◌-◌, ◌*◌, ◌/◌, ◌<◌, ◌≤◌, ◌⊎◌, Bool, cond, List, [], ◌∷◌, ◌++◌, length, take, drop, map, Option, Some, None, refl, sym, ap, ◌∙◌, arith, inl, inr, length-append, length-drop, drop-drop}
 use Rattle.std.specs.Prelude.{is_some}
 use Rattle.std.specs.List.{sum_by, count_by}
 use Rattle.std.specs.Option.{option_map, option_map_or}
-use Rattle.std.proofs.lemmas.Bool.{cases_lt, cases_eq, cases_Bool}
+use Rattle.std.proofs.lemmas.Bool.{cases_lt, cases_Bool}
 use Rattle.std.proofs.lemmas.List.{get_or-map, get_or_past, take-append-le, length-take, length-map}
-use Rattle.std.proofs.lemmas.List.Sums.{sum_by-cons, sum_by-set}
+use Rattle.std.proofs.lemmas.List.Sums.{sum_by-cons}
 use Rattle.entity_region.specs.declared.place.Place.{Place}
-use Rattle.entity_region.specs.Units.{unit_at, IsClear, IsFirstClear}
-use Rattle.entity_region.specs.Space.{Placed, Space, size, rounded, end_of, block_at, bytes_at, live, most, free, written, with_block, with_bytes, AreApart, IsDisjoint, IsHole, IsTaken}
-use Rattle.entity_region.specs.Sound.{units_of, end_unit, place_at, placed_of, space_of, IsCovered, AreLaidOut, AreMarked, taken}
+use Rattle.entity_region.specs.Units.{unit_at, IsClear}
+use Rattle.entity_region.specs.Space.{Placed, rounded, block_at, free, written, IsDisjoint, IsHole}
+use Rattle.entity_region.specs.Sound.{units_of, end_unit, place_at, placed_of, space_of, AreLaidOut, AreMarked, taken}
 
 pub block_view : (bytes : List ℕ) (places : List (Option Place)) (i : ℕ) → block_at (space_of bytes places) i ≡ option_map placed_of (place_at places i)
 block_view bytes places i = elim (cases_lt i (length places)) [

@@ -1,6 +1,6 @@
 -- How the places of blocks, the units that they have and the free numbers belong together.
 -- No public clause cites this module.
-use Rattle.std.specs.Prelude.{◌≡◌, ◌≢◌, ℕ, zero, suc, ◌+◌, ◌*◌, ◌/◌, ◌<◌, ◌≤◌, ◌⊎◌, Bool, true, false, not, List, length, map, Option, None, Some, is_some, slice_index_or}
+use Rattle.std.specs.Prelude.{◌≡◌, ◌≢◌, ℕ, ◌+◌, ◌*◌, ◌/◌, ◌<◌, ◌≤◌, ◌⊎◌, Bool, true, false, not, List, length, map, Option, None, Some, is_some, slice_index_or}
 use Rattle.std.specs.List.{sum_by, count_by}
 use Rattle.std.specs.Option.{option_map, option_map_or}
 use Rattle.entity_region.specs.declared.runs.Runs.{Runs}
@@ -53,6 +53,11 @@ pub record AreSpare (numbers : List ℕ) (live : ℕ) (places : List (Option Pla
   pub none : (k : ℕ) → live ≤ k → k < length numbers → place_at places (slice_index_or numbers k 0) ≡ None
   pub distinct : (j k : ℕ) → live ≤ j → j < k → k < length numbers → slice_index_or numbers j 0 ≢ slice_index_or numbers k 0
   pub counted : count_by is_some places ≡ live
+
+-- each number below a bound stands at its place
+pub record AreAll (bound : ℕ) (numbers : List ℕ) : Type 0 where
+  pub count : length numbers ≡ bound
+  pub each : (k : ℕ) → k < bound → slice_index_or numbers k 0 ≡ k
 
 -- how many units blocks have, and how many are clear
 abbrev pub taken : List (Option Place) → ℕ

@@ -48,6 +48,31 @@ abbrev pub IsTree : ℕ → List Runs → List Bool → Type 0
 IsTree zero nodes units = IsLeaf nodes units
 IsTree (suc levels) nodes units = IsFork (IsTree levels) nodes units
 
+-- how many nodes and units a tree of so many levels has, whose leaves have so many units
+abbrev pub node_count : ℕ → ℕ
+node_count zero = 1
+node_count (suc levels) = suc (node_count levels + node_count levels)
+
+abbrev pub unit_count : ℕ → ℕ → ℕ
+unit_count width zero = width
+unit_count width (suc levels) = unit_count width levels + unit_count width levels
+
+pub record IsShape (levels nodes units : ℕ) : Type 0 where
+  pub width : ℕ
+  pub nodes_are : nodes ≡ node_count levels
+  pub units_are : units ≡ unit_count width levels
+
+-- a shape that grows by one level after another, until its leaves are short
+pub record IsGrown (count width leaves levels nodes units : ℕ) : Type 0 where
+  pub nodes_are : nodes ≡ node_count levels
+  pub units_are : units ≡ unit_count width levels
+  pub leaves_are : leaves ≡ unit_count 1 levels
+  pub enough : count ≤ units
+  pub few : units + 1 ≤ count + leaves
+  pub some : levels < leaves
+  pub nodes_few : nodes + 1 ≡ leaves + leaves
+  pub leaves_few : leaves ≤ 32768
+
 -- there is a run of so many clear units
 pub record IsThere (units : List Bool) (n : ℕ) : Type 0 where
   pub at : ℕ

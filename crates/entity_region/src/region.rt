@@ -2,13 +2,15 @@
 
 ghost use Rattle.std.specs.Prelude.{◌≡◌, ◌+◌, ◌-◌, ◌<◌, ◌≤◌, ◌%◌, ◌^◌, Some, None, IfOk, IfSome, IfNone, IsSome, replicate};
 ghost use Rattle.std.specs.Borrow.{sem};
-ghost use Rattle.entity_region.specs.Space.{live, most, free, rounded, bytes_at, block_at, with_block, IsLive, IsTaken, IsDisjoint, HasNoHole};
-ghost use Rattle.entity_region.specs.Sound.{place_at};
+ghost use Rattle.entity_region.specs.Space.{size, live, most, free, rounded, bytes_at, block_at, with_block, IsLive, IsTaken, IsDisjoint, HasNoHole};
+ghost use Rattle.entity_region.specs.Sound.{place_at, AreAll};
 
 use crate::block::Block;
+use crate::memory::NoMemory;
 use crate::place::{Place, UNIT, units_of};
 use crate::runs::Runs;
-use crate::tree::{fill, first_fit, top};
+use crate::tree::{fill, first_fit, shape_for, top};
+use std::alloc::Global;
 use std::marker::Model;
 use std_alloc::vec::run_mut;
 
@@ -43,6 +45,30 @@ impl Model for Region {
 
 impl Region {
     ghost use Rattle.entity_region.specs.Lends.{LendsBytes};
+
+    /// A region of so many bytes, out of which so many blocks may be taken at once.
+    pub fn new(alloc: Global, bytes: usize, blocks: usize) -> Result<Region, NoMemory>
+        requires even { bytes % 16 ≡ 0 }
+        requires few { bytes ≤ 2 ^ 30 }
+        ensures size { IfOk result (λ region. size region ≡ bytes) }
+        ensures none { IfOk result (λ region. region.blocks ≡ replicate blocks None) }
+    {
+        let count = bytes / UNIT;
+        let shape = shape_for(count);
+        let mut units = vec![in alloc; true; shape.units]?;
+        let mut nodes = vec![in alloc; Runs::NONE; shape.nodes]?;
+        fill(shape.levels, &mut nodes, &mut units, 0, count, false);
+        Ok(Region {
+            bytes: vec![in alloc; 0; bytes]?,
+            units,
+            nodes,
+            levels: shape.levels,
+            places: no_places(alloc, blocks)?,
+            numbers: all_numbers(alloc, blocks)?,
+            live: 0,
+            free: bytes,
+        })
+    }
 
     /// The number of live blocks.
     pub fn live(&self) -> usize
@@ -140,4 +166,26 @@ fn place_of(places: &[Option<Place>], number: usize) -> Place
         Some(place) => place,
         None => unreachable!(),
     }
+}
+
+/// The numbers below a bound.
+fn all_numbers(alloc: Global, bound: usize) -> Result<Vec<usize>, NoMemory>
+    ensures { IfOk result (λ numbers. AreAll bound numbers.items) }
+{
+    let mut numbers = Vec::with_capacity(alloc, bound)?;
+    for number in 0..bound {
+        numbers.push(number)?;
+    }
+    Ok(numbers)
+}
+
+/// As many places, of no blocks.
+fn no_places(alloc: Global, bound: usize) -> Result<Vec<Option<Place>>, NoMemory>
+    ensures { IfOk result (λ places. places.items ≡ replicate bound None) }
+{
+    let mut places = Vec::with_capacity(alloc, bound)?;
+    for _number in 0..bound {
+        places.push(None)?;
+    }
+    Ok(places)
 }

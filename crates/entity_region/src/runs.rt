@@ -5,7 +5,7 @@ ghost use Rattle.entity_region.specs.Units.{AreRuns, IsFirstClear, IsThere, AreJ
 
 /// The numbers of clear units at the front, at the back, and in the longest run.
 #[derive(Clone, Copy, Debug)]
-pub struct Runs {
+pub(crate) struct Runs {
     pub front: usize,
     pub back: usize,
     pub most: usize,
@@ -45,6 +45,13 @@ pub(crate) fn first_among(units: &[bool], wanted: usize) -> usize
 }
 
 impl Runs {
+    /// None are clear.
+    pub(crate) const NONE: Runs = Runs {
+        front: 0,
+        back: 0,
+        most: 0,
+    };
+
     /// The runs of so many units with these and others behind them.
     pub(crate) fn join(self, len: usize, others: Runs, others_len: usize) -> Runs
         requires front { self.front ≤ len }

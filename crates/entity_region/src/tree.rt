@@ -1,10 +1,48 @@
 //! A tree over units. Each node knows the longest clear runs of its part, so the first run of a length is found
 //! without a look at all units.
 
-ghost use Rattle.std.specs.Prelude.{◌≡◌, ◌+◌, ◌<◌, ◌≤◌, length};
-ghost use Rattle.entity_region.specs.Units.{IsTree, IsFirstClear, IsFilled, IsLeaf, IsThere, AreRuns};
+ghost use Rattle.std.specs.Prelude.{◌≡◌, ◌+◌, ◌<◌, ◌≤◌, ◌^◌, length};
+ghost use Rattle.entity_region.specs.Units.{IsTree, IsFirstClear, IsFilled, IsLeaf, IsShape, IsThere, AreRuns};
 
 use crate::runs::{Runs, first_among, scan};
+
+/// A leaf has at most so many units, where there are not yet as many leaves as there may be.
+const LEAF: usize = 128;
+
+/// The most leaves.
+const MOST_LEAVES: usize = 16_384;
+
+/// How many levels, nodes and units a tree has.
+#[derive(Drop)]
+pub(crate) struct Shape {
+    pub levels: u32,
+    pub nodes: usize,
+    pub units: usize,
+}
+
+/// The shape of a tree that has so many units or a few more, since its leaves are equal.
+pub(crate) fn shape_for(count: usize) -> Shape
+    requires { count < 2 ^ 32 }
+    ensures fits { IsShape result.levels result.nodes result.units }
+    ensures enough { count ≤ result.units }
+{
+    let (mut width, mut leaves) = (count, 1);
+    let mut shape = Shape {
+        levels: 0,
+        nodes: 1,
+        units: count,
+    };
+    'halve: while LEAF < width && leaves < MOST_LEAVES {
+        if width % 2 == 1 {
+            shape.units += leaves;
+        }
+        width = width.div_ceil(2);
+        leaves *= 2;
+        shape.nodes = 2 * shape.nodes + 1;
+        shape.levels += 1;
+    }
+    shape
+}
 
 /// The runs of a tree's units.
 pub(crate) fn top(levels: u32, nodes: &[Runs], units: &[bool]) -> Runs

@@ -1,4 +1,4 @@
-use Rattle.std.proofs.Common.{◌≡◌, ◌+◌, ◌-◌, ◌/◌, ◌<◌, ◌≤◌, ◌∷◌, ◌++◌, length, min, max, arith, subst, sym, ap, refl, ◌∙◌}
+use Rattle.std.proofs.Common.{◌≡◌, ◌-◌, ◌/◌, ◌∷◌, ◌++◌, length, min, max, arith, subst, sym, ap, ◌∙◌}
 use Rattle.entity_region.specs.Units.{IsFilled, AreJoined}
 use Rattle.entity_region.proofs.TreeLemmas.{parts_of, runs_fit, filled_both, tree_of}
 use Rattle.entity_region.proofs.tree.+fill.Goals as goal

@@ -1,4 +1,4 @@
-use Rattle.std.proofs.Common.{◌≡◌, ◌+◌, ◌-◌, ◌/◌, ◌<◌, ◌≤◌, ◌∷◌, ◌++◌, length, arith, subst, sym, ap, refl, ◌∙◌}
+use Rattle.std.proofs.Common.{◌+◌, ◌-◌, ◌∷◌, length, arith, subst, sym, ap, ◌∙◌}
 use Rattle.entity_region.specs.Units.{IsThere, IsFirstClear}
 use Rattle.entity_region.proofs.TreeLemmas.{parts_of, there_of, first_in_front, first_over_seam, there_in_back, first_in_back}
 use Rattle.entity_region.proofs.tree.+first_fit.Goals as goal

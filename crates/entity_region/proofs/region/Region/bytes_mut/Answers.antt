@@ -1,7 +1,6 @@
-use Rattle.std.proofs.Common.{◌≡◌, ◌+◌, ◌-◌, ◌*◌, ◌<◌, ◌≤◌, ◌++◌, length, get_or, set, take, drop, Some, arith, refl, sym, ap, subst, ◌∙◌}
-use Rattle.std.specs.Option.{option_map, option_map_or}
-use Rattle.std.specs.Vec.{with_items_from}
-use Rattle.entity_region.specs.Space.{block_at, written}
+use Rattle.std.proofs.Common.{◌≡◌, ◌+◌, ◌-◌, ◌*◌, take, drop, Some, arith, refl, sym, ap, subst, ◌∙◌}
+use Rattle.std.specs.Option.{option_map}
+use Rattle.entity_region.specs.Space.{block_at}
 use Rattle.entity_region.specs.Sound.{place_at, placed_of, space_of}
 use Rattle.entity_region.proofs.ViewLemmas.{block_view, written_items}
 use Rattle.entity_region.proofs.region.Region.bytes_mut.Goals as goal

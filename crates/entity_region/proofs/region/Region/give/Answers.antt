@@ -1,6 +1,6 @@
-use Rattle.std.proofs.Common.{◌≡◌, ◌+◌, ◌-◌, ◌*◌, ◌<◌, ◌≤◌, ◌++◌, length, get_or, set, take, drop, Some, false, arith, sym, ap, subst, ◌∙◌}
+use Rattle.std.proofs.Common.{◌≡◌, ◌+◌, length, drop, Some, false, subst, ◌∙◌}
 use Rattle.entity_region.specs.Units.{IsFilled}
-use Rattle.entity_region.specs.Sound.{IsSound, place_at}
+use Rattle.entity_region.specs.Sound.{place_at}
 use Rattle.entity_region.proofs.RegionLemmas.{written_back, sound_given, view_given}
 use Rattle.entity_region.proofs.region.Region.give.Goals as goal
 

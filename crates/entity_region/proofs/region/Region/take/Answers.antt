@@ -1,7 +1,6 @@
-use Rattle.std.proofs.Common.{◌≡◌, ◌+◌, ◌-◌, ◌*◌, ◌<◌, ◌≤◌, ◌++◌, length, get_or, set, take, drop, Some, true, arith, sym, ap, subst, ◌∙◌}
+use Rattle.std.proofs.Common.{◌+◌, length, drop, true, arith, subst, ◌∙◌}
 use Rattle.std.proofs.lemmas.List.{get_or_default}
-use Rattle.entity_region.specs.Units.{AreRuns, IsFirstClear, IsFilled, IsTree}
-use Rattle.entity_region.specs.Sound.{IsSound}
+use Rattle.entity_region.specs.Units.{AreRuns, IsFirstClear, IsFilled}
 use Rattle.entity_region.proofs.LayoutLemmas.{some_units}
 use Rattle.entity_region.proofs.RegionLemmas.{written_back, number_left, run_fits, sound_taken, view_taken, view_full}
 use Rattle.entity_region.proofs.region.Region.take.Goals as goal
