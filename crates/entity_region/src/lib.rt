@@ -12,3 +12,6 @@ pub use block::Block;
 pub use memory::NoMemory;
 pub use place::UNIT;
 pub use region::Region;
+
+#[cfg(test)]
+mod tests;
