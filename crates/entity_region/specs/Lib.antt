@@ -1,0 +1,4 @@
+pub mod Lends
+pub mod Sound
+pub mod Space
+pub mod Units

@@ -1,0 +1,17 @@
+//! A fixed region of bytes, out of which blocks are taken.
+#![tactic(auto)]
+
+mod block;
+mod memory;
+mod place;
+mod region;
+mod runs;
+mod tree;
+
+pub use block::Block;
+pub use memory::NoMemory;
+pub use place::UNIT;
+pub use region::Region;
+
+#[cfg(test)]
+mod tests;
