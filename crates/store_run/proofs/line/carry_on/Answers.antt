@@ -1,5 +1,5 @@
 -- What comes next is carried out, or the run ends within the line.
-use Rattle.std.proofs.Common.{◌≡◌, ◌++◌, List, ℕ, take, refl, subst}
+use Rattle.std.proofs.Common.{◌≡◌, ◌++◌, IsErrOf, List, ℕ, take, refl, subst, arith}
 use Rattle.graph_model.specs.declared.ask.StorageFault.TheVariants as storage
 use Rattle.session.specs.Dealing.{IsDueStep}
 use Rattle.session.specs.declared.session.SessionStep.{SessionStep as Step}
@@ -11,7 +11,7 @@ use Rattle.store_run.specs.declared.stop.Stop.{Stop}
 use Rattle.store_run.specs.declared.stop.Stop.TheVariants as stop
 use Rattle.store_run.proofs.CutWithin.{ask_cut, print_cut}
 use Rattle.store_run.proofs.StepsWithin.{printed_within, served_within}
-use Rattle.store_run.proofs.Stops.{failed_so, if_stopped, some_full, stopped_full, storage_full}
+use Rattle.store_run.proofs.Stops.{failed_so, if_stopped, not_of_storage, some_full, stopped_is, storage_failed, storage_full}
 use Rattle.store_run.proofs.line.carry_on.Goals as goal
 
 pub returns-in_ok-reply-in-Ask-clause-carried : goal.returns-in_ok-reply-in-Ask-clause-carried
@@ -42,12 +42,26 @@ returns-in_err-reply-in-Ask-clause-stop g c answers tells clean session kept lin
     (λ full. storage_full fault _ full (λ number is. c.in_err-reply-in-Ask.ensures.full tells number (failed_so fault (storage.Full number) is)))
     (c.in_err-reply-in-Ask.ensures.stop tells clean) asked)
 
-pub returns-in_err-reply-in-Ask-clause-causes-full : goal.returns-in_err-reply-in-Ask-clause-causes-full
-returns-in_err-reply-in-Ask-clause-causes-full g c tells is =
+pub returns-in_err-reply-in-Ask-clause-causes : goal.returns-in_err-reply-in-Ask-clause-causes
+returns-in_err-reply-in-Ask-clause-causes g c =
     let fault = c.in_err-reply-in-Ask.field-0.0 in
     let reads = g.D.Disk.reads c.serve.new.disk in
-    storage_full fault (HasFullLog reads) (stopped_full c.from_residual.result (storage_stop fault) c.from_residual.ensures.1 is)
-    (λ number full. some_full c.in-Ask.ask reads (c.in_err-reply-in-Ask.ensures.full tells number (failed_so fault (storage.Full number) full)))
+    let ends = c.in_err-reply-in-Ask.ensures in
+    let is = λ (s : Stop) (told : IsErrOf c.from_residual.result s). stopped_is c.from_residual.result (storage_stop fault) s c.from_residual.ensures.1 told in
+    let never = not_of_storage fault in
+    record {
+      sink_faults = omega arith;
+      disk_faults = c.serve.ensures.faults;
+      write_fault = λ told. absurd (never.0 (is stop.WriteFault told));
+      storage_fault = λ told.
+          storage_failed fault _ (is stop.StorageFault told) (λ failed. ends.cause (failed_so fault storage.Fault failed))
+          (λ id broken. ends.not_broken id (failed_so fault (storage.Broken id) broken));
+      full = λ tells told.
+          storage_full fault (HasFullLog reads) (is stop.Full told)
+          (λ number full. some_full c.in-Ask.ask reads (ends.full tells number (failed_so fault (storage.Full number) full)));
+      not_read = λ told. never.1.0 (is stop.ReadFault told);
+      not_long = λ told. never.1.1 (is stop.InputTooLong told);
+    }
 
 pub returns-in_err-put-in-Print-clause-stop : goal.returns-in_err-put-in-Print-clause-stop
 returns-in_err-put-in-Print-clause-stop g c answers tells clean session kept line k within =
