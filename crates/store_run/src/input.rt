@@ -1,11 +1,10 @@
 // The lines of a source are answered.
-ghost use Rattle.std.specs.Prelude.{◌≡◌, ◌<◌, ◌≤◌, ◌++◌, [], ℕ, List, IsTrue, length, take, drop, OnOk, IfErr, IfOk, OnErr, IsErrOf};
+ghost use Rattle.std.specs.Prelude.{◌≡◌, ◌<◌, ◌≤◌, ◌++◌, [], IsTrue, length, take, drop, OnOk, IfErr, IfOk, OnErr, IsErrOf};
 ghost use Rattle.call_counts.specs.Counts.{Rose};
 ghost use Rattle.session_model.specs.Answer.{State};
 ghost use Rattle.plain_storage.specs.Held.{PlainHeld};
 ghost use Rattle.plain_storage.specs.Images.{AreClean, OtherFilesStay};
 ghost use Rattle.plain_storage.specs.Keeping.{AreOpen};
-ghost use Rattle.plain_storage.specs.Logs.{HasFullLog};
 ghost use Rattle.store_run.specs.Causes.{HasCauses};
 ghost use Rattle.store_run.specs.Serving.{IsAt};
 ghost use Rattle.store_run.specs.Progress.{IsFinished, IsPartAnswered, StandsBehind};

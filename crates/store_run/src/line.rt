@@ -1,13 +1,11 @@
 // One line is answered.
-ghost use Rattle.std.specs.Prelude.{◌≡◌, ◌≤◌, ◌++◌, Bool, IsTrue, IfOk, OnOk, IfErr, IsErrOf};
-ghost use Rattle.call_counts.specs.Counts.{Rose};
+ghost use Rattle.std.specs.Prelude.{◌≡◌, ◌++◌, Bool, IsTrue, IfOk, OnOk, IfErr, IsErrOf};
 ghost use Rattle.session.specs.Dealing.{IsDueStep};
 ghost use Rattle.session_lines.specs.Limits.{most_bytes};
 ghost use Rattle.session.specs.Sessions.{SessionView as AnySession};
 ghost use Rattle.session_model.specs.Answer.{State, turn};
 ghost use Rattle.plain_storage.specs.Images.{AreClean, OtherFilesStay};
 ghost use Rattle.plain_storage.specs.Keeping.{AreOpen, Keeps, held_in};
-ghost use Rattle.plain_storage.specs.Logs.{HasFullLog};
 ghost use Rattle.store_run.specs.Answer.{held_behind};
 ghost use Rattle.store_run.specs.Causes.{HasLineCauses};
 ghost use Rattle.store_run.specs.Serving.{IsAt, IsTurnCut};

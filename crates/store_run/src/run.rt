@@ -1,16 +1,14 @@
 // A whole run.
-ghost use Rattle.std.specs.Prelude.{◌≡◌, ◌<◌, ◌≤◌, ◌++◌, ◌⊎◌, [], ℕ, List, IsTrue, IfOk, length, drop, codes};
+ghost use Rattle.std.specs.Prelude.{◌≡◌, ◌<◌, ◌≤◌, ◌++◌, ◌⊎◌, [], ℕ, IsTrue, IfOk, length, drop, codes};
 ghost use Rattle.call_counts.specs.Counts.{Rose};
 ghost use Rattle.session_model.specs.Answer.{State};
-ghost use Rattle.plain_storage.specs.Held.{IsPlainFault, IsPlainStored, PlainHeld};
-ghost use Rattle.plain_storage.specs.Images.{AreClean, EachPair, OtherFilesStay};
+ghost use Rattle.plain_storage.specs.Held.{IsPlainFault, PlainHeld};
+ghost use Rattle.plain_storage.specs.Images.{AreClean, OtherFilesStay};
 ghost use Rattle.plain_storage.specs.Keeping.{AreOpen, IsStart, Keeps, held_in};
-ghost use Rattle.plain_storage.specs.Logs.{HasFullLog};
 ghost use Rattle.store_run.specs.declared.status.Cause.{Cause};
-ghost use Rattle.store_run.specs.Acknowledged.{acknowledged};
-ghost use Rattle.store_run.specs.Answer.{answer, opened_on};
+ghost use Rattle.store_run.specs.Answer.{opened_on};
 ghost use Rattle.store_run.specs.Progress.{StandsBehind};
-ghost use Rattle.store_run.specs.Run.{HoldsAcknowledged, IsCleanWith, IsFrontOf, IsRun, Puts};
+ghost use Rattle.store_run.specs.Run.{IsCleanWith, IsFrontOf, IsRun, Puts};
 ghost use Rattle.store_run.specs.Causes.{HasCauses};
 ghost use Rattle.store_run.specs.Serving.{IsAt};
 ghost use Rattle.store_run.specs.Statuses.{status_of};

@@ -1,11 +1,9 @@
 // The bytes of a script are taken, and each line that they end is answered.
-ghost use Rattle.std.specs.Prelude.{◌≡◌, ◌<◌, ◌≤◌, [], ◌∷◌, ℕ, List, IsTrue, OnOk, IfErr, IsErrOf};
-ghost use Rattle.call_counts.specs.Counts.{Rose};
+ghost use Rattle.std.specs.Prelude.{[], ◌∷◌, ℕ, List, IsTrue, OnOk, IfErr, IsErrOf};
 ghost use Rattle.session_model.specs.Answer.{State};
 ghost use Rattle.plain_storage.specs.Held.{PlainHeld};
 ghost use Rattle.plain_storage.specs.Images.{AreClean, OtherFilesStay};
 ghost use Rattle.plain_storage.specs.Keeping.{AreOpen};
-ghost use Rattle.plain_storage.specs.Logs.{HasFullLog};
 ghost use Rattle.store_run.specs.Causes.{HasLineCauses};
 ghost use Rattle.store_run.specs.Serving.{IsAt};
 ghost use Rattle.store_run.specs.Progress.{IsFinished, IsPartAnswered, IsServed, Serves, Stops};
