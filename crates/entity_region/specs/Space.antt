@@ -76,6 +76,11 @@ written memory at bytes = take (length memory) (take at memory ++ (bytes ++ drop
 abbrev pub with_bytes : Space → ℕ → List ℕ → Space
 with_bytes s number bytes = record s { memory = written s.memory (option_map_or (λ p. p.at) (block_at s number) 0) bytes }
 
+-- a block has these bytes, and every other block has its own as before
+pub record AreWritten (old new : Space) (number : ℕ) (bytes : List ℕ) : Type 0 where
+  pub there : bytes_at new number ≡ Some bytes
+  pub others : (other : ℕ) → other ≢ number → bytes_at new other ≡ bytes_at old other
+
 -- a block of n bytes came in the first hole that holds them
 pub record IsTaken (old new : Space) (n number : ℕ) : Type 0 where
   pub at : ℕ

@@ -1,8 +1,8 @@
 //! The region.
 
-ghost use Rattle.std.specs.Prelude.{◌≡◌, ◌+◌, ◌-◌, ◌<◌, ◌≤◌, ◌%◌, ◌^◌, Some, None, IfOk, IfSome, IfNone, IsSome, replicate};
+ghost use Rattle.std.specs.Prelude.{ℕ, List, length, ◌≡◌, ◌+◌, ◌-◌, ◌<◌, ◌≤◌, ◌%◌, ◌^◌, Some, None, IfOk, IfSome, IfNone, IsSome, replicate};
 ghost use Rattle.std.specs.Borrow.{sem};
-ghost use Rattle.entity_region.specs.Space.{size, live, most, free, rounded, bytes_at, block_at, with_block, IsLive, IsTaken, IsDisjoint, HasNoHole};
+ghost use Rattle.entity_region.specs.Space.{size, live, most, free, rounded, bytes_at, block_at, with_block, with_bytes, AreWritten, IsLive, IsTaken, IsDisjoint, HasNoHole};
 ghost use Rattle.entity_region.specs.Sound.{place_at, AreAll};
 
 use crate::block::Block;
@@ -128,6 +128,7 @@ impl Region {
         requires { IsLive self.old block.now }
         ensures* writes_back { sem 𝓛 (LendsBytes self.entry block.now result) }
         ensures value { bytes_at self.old block.now ≡ Some result.now }
+        ensures written { (bytes : List ℕ) → length bytes ≡ length result.now → AreWritten self.old (with_bytes self.old block.now bytes) block.now bytes }
     {
         let place = place_of(&self.places, block.number);
         let from = UNIT * place.unit;
