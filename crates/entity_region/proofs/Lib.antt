@@ -6,3 +6,4 @@ pub mod CountLemmas
 pub mod RegionLemmas
 pub mod ShapeLemmas
 pub mod NewLemmas
+pub mod ListedLemmas
