@@ -250,6 +250,7 @@ module _ {C : Type 0} (told : C → Told) (backs : Core → List C → Type 0) w
             λ said. let q = r.assembles (sym mine.tells ∙ said) in record {
               core = q.core;
               good = q.good;
+              channels = omega (arith, q.count, mine.channels);
               shard = q.shards k u unit.1;
               hand = (q.seats id v at live).hand;
               desk = λ z. (q.start, q.desk id v at live z);

@@ -1,5 +1,5 @@
 -- What a turn may do, and what each step on the table tells.
-use Rattle.std.specs.Prelude.{◌≡◌, ◌≢◌, ◌⊎◌, ℕ, Bool, true, false, is_some, [], ◌∷◌, Option, Some, None, slice_get}
+use Rattle.std.specs.Prelude.{◌≡◌, ◌≢◌, ◌⊎◌, ℕ, Bool, true, false, is_some, [], ◌∷◌, Option, Some, None, length, slice_get}
 use Rattle.atomic_table.specs.Table.{Me, Step}
 use Rattle.core_steps.specs.declared.unit.Ending.{Ending}
 use Rattle.core_steps.specs.declared.unit.Ending.TheVariants.{Sound, Fault, Full, Broken}
@@ -54,10 +54,11 @@ module _ {C : Type 0} where
 
   -- THE CORE AT A STEP
 
-  -- when the turn was taken, unit, hand and desk were of one good core
+  -- when the turn was taken, unit, hand and desk were of one good core, of as many channels as the pass knows: so the last shard is the monitor
   pub record Glimpse (v : Known C) (k : ℕ) (t : Told) : Type 0 where
     pub core : Core
     pub good : IsGood core
+    pub channels : length core.channels ≡ v.channels
     pub shard : t.part ≡ part_at core k
     pub hand : slice_get core.hands v.own.actor ≡ Some v.own.hand
     pub desk : v.own.actor ≡ 0 → (start : Core) × DeskFits start core v.desk
