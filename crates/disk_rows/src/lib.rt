@@ -22,6 +22,8 @@ mod logs;
 #[cfg(test)]
 mod recoveries;
 #[cfg(test)]
+mod regions;
+#[cfg(test)]
 mod silent_disk;
 #[cfg(test)]
 mod tables;

@@ -12,6 +12,3 @@ pub use block::Block;
 pub use memory::NoMemory;
 pub use place::UNIT;
 pub use region::Region;
-
-#[cfg(test)]
-mod tests;

@@ -1,5 +1,5 @@
 //! Regions whose holes were worked out by hand.
-use crate::Region;
+use entity_region::Region;
 
 #[test]
 fn holes_are_found_first_to_last(rt: HostRuntime) -> Result<(), std::test::Fail> {
