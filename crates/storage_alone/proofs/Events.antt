@@ -1,18 +1,16 @@
 -- What a channel's or the monitor's call makes of the core that a storage stands for.
-use Rattle.std.proofs.Common.{◌≡◌, ◌≢◌, ◌⊎◌, ℕ, ◌<◌, arith, Bool, true, false, List, [], ◌∷◌, length, map, set, Option, Some, None, refl, sym, ap, subst, ◌∙◌, inl, inr}
+use Rattle.std.proofs.Common.{◌≡◌, ◌≢◌, ◌⊎◌, ℕ, arith, Bool, true, List, [], ◌∷◌, length, map, set, Option, Some, None, refl, sym, ap, ◌∙◌, inl, inr}
 use Rattle.std.specs.Prelude.{slice_get, nat_eq, option_map}
-use Rattle.std.specs.List.{filter}
 use Rattle.std.proofs.lemmas.Bool.{cases_eq, eq-eqb}
-use Rattle.std.proofs.lemmas.List.{length-map, map-set, length-set}
+use Rattle.std.proofs.lemmas.List.{map-set}
 use Rattle.std.proofs.lemmas.Option.{slice_get-map, slice_get_past}
-use Rattle.graph_model.specs.declared.entity.Record.{Record}
-use Rattle.core_steps.specs.Core.{Core, Hand, held, is_home, open_records}
+use Rattle.core_steps.specs.Core.{Hand, held}
 use Rattle.core_steps.specs.declared.state.Book.{Book}
 use Rattle.core_steps.specs.declared.event.Event.{Event}
 use Rattle.core_steps.specs.declared.event.Step.{Step}
 use Rattle.core_steps.specs.declared.state.CoreChannel.{CoreChannel}
 use Rattle.core_steps.specs.declared.state.CoreMonitor.{CoreMonitor}
-use Rattle.core_steps.specs.Rows.{Channel, Monitor, Part, as_channel, as_monitor, channel_step, monitor_step}
+use Rattle.core_steps.specs.Rows.{Channel, Monitor, as_channel, as_monitor, channel_step, monitor_step}
 use Rattle.core_steps.specs.Steps.{book_after, part_of, permits, place_in, step}
 use Rattle.core_steps.proofs.Shards.{get_set_else, get_set_here, step_is}
 use Rattle.channel.specs.Core.{core_of}

@@ -1,16 +1,15 @@
 -- A storage that holds an id too, or no longer, serves on.
-use Rattle.std.proofs.Common.{◌≡◌, ℕ, ◌+◌, Bool, true, false, ◌||◌, ◌<◌, ◌&&◌, not, List, [], ◌∷◌, length, map, set, Option, Some, refl, sym, ap, subst, ◌∙◌, ⊎_elim}
+use Rattle.std.proofs.Common.{◌≡◌, ℕ, Bool, true, false, ◌||◌, ◌<◌, ◌&&◌, not, List, [], ◌∷◌, length, map, set, Option, Some, refl, sym, ap, subst, ◌∙◌, ⊎_elim}
 use Rattle.std.specs.Prelude.{nat_eq, option_map, slice_get}
 use Rattle.std.proofs.lemmas.List.{length-map, length-set, map-set}
 use Rattle.graph_model.specs.Ids.{add, has, remove, rises}
 use Rattle.graph_model.specs.Stores.{may_hold}
 use Rattle.graph_model.specs.declared.entity.Record.{Record}
-use Rattle.core_steps.specs.Core.{Core, Hand, channel_at, graph, held, home, is_idle, no_channel}
+use Rattle.core_steps.specs.Core.{Core, Hand, channel_at, graph, home, is_idle, no_channel}
 use Rattle.core_steps.specs.Good.{IsGood}
-use Rattle.core_steps.specs.Rows.{channel_step, monitor_step, pinned}
+use Rattle.core_steps.specs.Rows.{channel_step, monitor_step}
 use Rattle.core_steps.specs.declared.state.Place.{Place}
 use Rattle.core_steps.specs.Steps.{place_in, step}
-use Rattle.core_steps.specs.declared.event.Event.{Event}
 use Rattle.core_steps.specs.declared.event.Event.TheVariants.{Pin, Reserve, Return, Unpin}
 use Rattle.core_steps.specs.declared.state.Book.{Book}
 use Rattle.core_steps.specs.declared.state.CoreChannel.{CoreChannel}

@@ -8,7 +8,7 @@ use Rattle.graph_model.proofs.IdSets.{has_add, has_add_all, has_other}
 use Rattle.core_steps.specs.declared.state.CoreChannel.{CoreChannel}
 use Rattle.core_steps.specs.Core.{Core, channel_at, held, home, no_channel}
 use Rattle.core_steps.specs.Good.{IsGood, channel_of}
-use Rattle.core_steps.proofs.Lists.{held_on, home_below, pin_is_held}
+use Rattle.core_steps.proofs.Lists.{held_on, pin_is_held}
 
 -- ---- an id is held where its own channel has it pinned
 

@@ -1,5 +1,5 @@
 -- How a look-up ends.
-use Rattle.std.proofs.Common.{◌≡◌, ◌↔◌, ℕ, ◌≤◌, Bool, true, false, IsTrue, IfErr, IfOk, IsErrOf, IsSomeAnd, OnOk, List, [], ◌∷◌, length, map, set, take, Option, Some, None, Result, Ok, Err, MatchResult, refl, sym, ap, subst, ◌∙◌}
+use Rattle.std.proofs.Common.{◌≡◌, ◌↔◌, ℕ, ◌≤◌, Bool, false, IsTrue, IfErr, IfOk, IsErrOf, IsSomeAnd, OnOk, List, length, take, Option, Some, None, Result, Ok, Err, MatchResult, refl, sym, ap, subst, ◌∙◌}
 use Rattle.std.specs.Prelude.{is_some, slice_get}
 use Rattle.std.proofs.lemmas.Bool.{false≢true}
 use Rattle.call_counts.specs.Counts.{Rose}
@@ -26,7 +26,7 @@ use Rattle.channel.specs.declared.fault.ChannelFault.{ChannelFault}
 use Rattle.channel.specs.declared.fault.ChannelFault.TheVariants as refused
 use Rattle.recovery.specs.Alone.{AloneState, Serves}
 use Rattle.storage_alone.specs.Asks.{Answers, held_by}
-use Rattle.storage_alone.specs.Faults.{EndsSo, IsCalm, NoneFell, OnServed, SomeEnds, SomeRose, fault_of}
+use Rattle.storage_alone.specs.Faults.{EndsSo, IsCalm, NoneFell, OnServed, SomeRose, fault_of}
 use Rattle.storage_alone.specs.Steady.{IsSteady, IsSteadyChannel}
 use Rattle.storage_alone.proofs.Looked.{kept_entity, pays_nothing, same_read, serves_read, stands_read, with_read}
 use Rattle.storage_alone.proofs.Steadily.{calm_still, none_fell, some_rose, steady_on}

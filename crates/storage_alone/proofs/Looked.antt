@@ -1,17 +1,15 @@
 -- An entity was looked up: the core is as it was.
-use Rattle.std.proofs.Common.{◌≡◌, ℕ, ◌<◌, ◌%◌, Bool, true, false, List, [], ◌∷◌, length, map, set, Option, Some, None, IsSomeAnd, refl, sym, ap, subst, ◌∙◌}
+use Rattle.std.proofs.Common.{◌≡◌, ℕ, Bool, List, [], ◌∷◌, length, map, set, Option, Some, refl, sym, ap, subst, ◌∙◌}
 use Rattle.std.specs.Prelude.{option_map, slice_get}
 use Rattle.std.proofs.lemmas.List.{map-set}
 use Rattle.std.proofs.lemmas.Option.{slice_get-map}
 use Rattle.graph_model.specs.Ids.{has}
-use Rattle.graph_model.specs.Graph.{entity_of, lists}
-use Rattle.graph_model.specs.Served.{IsKept, IsSame, OnlyHeldChanged}
-use Rattle.graph_model.specs.declared.entity.Entity.{Entity}
-use Rattle.core_steps.specs.Core.{Hand, channel_at, graph, held, home}
-use Rattle.core_steps.specs.Good.{IsGood, channel_of}
+use Rattle.graph_model.specs.Graph.{entity_of}
+use Rattle.graph_model.specs.Served.{IsKept, IsSame}
+use Rattle.core_steps.specs.Core.{channel_at, graph, held, home}
+use Rattle.core_steps.specs.Good.{IsGood}
 use Rattle.core_steps.specs.declared.state.Book.{Book}
 use Rattle.core_steps.specs.declared.state.CoreChannel.{CoreChannel}
-use Rattle.core_steps.specs.declared.state.CoreMonitor.{CoreMonitor}
 use Rattle.core_steps.proofs.Readers.{live_entity}
 use Rattle.core_steps.proofs.Shards.{set_same}
 use Rattle.type_desc.specs.declared.desc.TypeDesc.{TypeDesc}
@@ -20,7 +18,7 @@ use Rattle.channel.specs.Shown.{DiskTable}
 use Rattle.channel.specs.State.{ChannelState}
 use Rattle.recovery.specs.Alone.{AloneState, Serves, Stands, core_with}
 use Rattle.recovery.specs.Disks.{StandFor}
-use Rattle.storage_alone.specs.Asks.{IsAsBefore, IsRefused, held_by, storage_of}
+use Rattle.storage_alone.specs.Asks.{held_by, storage_of}
 use Rattle.storage_alone.specs.Steady.{IsSteady}
 use Rattle.storage_alone.proofs.Frames.{serves_on, stands_on}
 use Rattle.storage_alone.proofs.Held.{goes_on, got_core, many_cores}

@@ -1,15 +1,15 @@
 -- What the events of a store make of the monitor and the hand.
-use Rattle.std.proofs.Common.{◌≡◌, ℕ, zero, suc, ◌+◌, ◌<◌, ◌≤◌, ◌^◌, arith, ◌≢◌, Bool, true, false, cond, ⊎_elim, ◌&&◌, ◌||◌, not, List, [], ◌∷◌, length, Option, Some, None, refl, sym, ap, subst, ◌∙◌}
+use Rattle.std.proofs.Common.{◌≡◌, ℕ, zero, suc, ◌+◌, ◌<◌, ◌≤◌, arith, ◌≢◌, Bool, true, false, cond, ⊎_elim, ◌||◌, List, [], ◌∷◌, length, Option, Some, None, refl, sym, ap, subst, ◌∙◌}
 use Rattle.std.specs.Prelude.{nat_eq, nat_le, nat_lt}
 use Rattle.std.specs.List.{filter, list_all, range_with_len}
-use Rattle.std.proofs.lemmas.Bool.{and_from, and_parts, cases_Bool, ltb-true, or_left, or_right, eq-eqb, cases_eq, eqb-true, lt-ltb, or_cases}
+use Rattle.std.proofs.lemmas.Bool.{and_from, cases_Bool, ltb-true, or_left, or_right, eq-eqb, cases_eq, eqb-true, lt-ltb, or_cases}
 use Rattle.graph_model.specs.Ids.{add, add_all, has}
 use Rattle.graph_model.specs.Graph.{ids}
 use Rattle.graph_model.specs.declared.entity.Record.{Record}
 use Rattle.graph_model.specs.declared.entity.StoreOp.{StoreOp}
 use Rattle.graph_model.proofs.IdSets.{has_add}
 use Rattle.core_steps.specs.Core.{Hand, is_idle}
-use Rattle.core_steps.specs.Rows.{begun_store, channel_step, end_store, given, has_part, is_complete, may_begin, may_take, monitor_step, part_given, part_marked, part_taken, seeing, store_channels, store_part}
+use Rattle.core_steps.specs.Rows.{begun_store, channel_step, end_store, has_part, is_complete, may_begin, may_take, monitor_step, part_given, part_marked, part_taken, seeing, store_channels, store_part}
 use Rattle.core_steps.specs.declared.state.CoreChannel.{CoreChannel}
 use Rattle.core_steps.specs.declared.state.CoreMonitor.{CoreMonitor}
 use Rattle.core_steps.specs.declared.state.OpenStore.{OpenStore}

@@ -1,18 +1,14 @@
 -- An id is held, by a credit that is given back.
-use Rattle.std.proofs.Common.{◌≡◌, ℕ, ◌+◌, ◌-◌, ◌^◌, ◌&&◌, Bool, true, false, cond, List, [], ◌∷◌, length, map, set, Option, Some, None, refl, sym, ap, subst, ◌∙◌, ⊎_elim}
-use Rattle.std.specs.Prelude.{slice_get, nat_le, nat_eq, ◌||◌}
+use Rattle.std.proofs.Common.{◌≡◌, ℕ, ◌+◌, ◌-◌, ◌^◌, ◌&&◌, Bool, true, false, cond, List, [], ◌∷◌, Some, refl, sym, ap, ◌∙◌, ⊎_elim}
+use Rattle.std.specs.Prelude.{nat_le, nat_eq, ◌||◌}
 use Rattle.std.proofs.lemmas.Bool.{or_cases, or_left, or_right, eq-eqb}
-use Rattle.std.proofs.lemmas.List.{length-map, length-set, map-set}
-use Rattle.std.proofs.lemmas.Option.{slice_get-map}
-use Rattle.graph_model.specs.Ids.{add, has, remove}
+use Rattle.graph_model.specs.Ids.{has, remove}
 use Rattle.graph_model.specs.Graph.{Graph, IsReached, has_edge, lists}
 use Rattle.graph_model.specs.Stores.{any_edge, may_hold}
-use Rattle.graph_model.specs.declared.entity.Record.{Record}
 use Rattle.graph_model.proofs.Graphs.{reached_on, reached_start}
-use Rattle.core_steps.specs.Core.{Core, Hand, channel_at, graph, held, home, is_idle}
-use Rattle.core_steps.specs.Good.{IsGood, IsLiveId, channel_of}
+use Rattle.core_steps.specs.Core.{Core, Hand, graph, held, is_idle}
+use Rattle.core_steps.specs.Good.{IsGood, channel_of}
 use Rattle.core_steps.specs.Rows.{channel_step, given, greyed, marks_pin, monitor_step, pinned, seeing}
-use Rattle.core_steps.specs.declared.state.Book.{Book}
 use Rattle.core_steps.specs.declared.state.CoreChannel.{CoreChannel}
 use Rattle.core_steps.specs.declared.state.CoreMonitor.{CoreMonitor}
 use Rattle.core_steps.specs.declared.state.Phase.{Phase}

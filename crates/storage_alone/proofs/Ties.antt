@@ -1,19 +1,16 @@
 -- From what a channel holds to its images, and back.
-use Rattle.std.proofs.Common.{◌≡◌, ◌⊎◌, ℕ, ◌+◌, ◌<◌, ◌≤◌, arith, Bool, true, false, cond, List, [], ◌∷◌, ◌++◌, length, map, Option, Some, None, IsSomeAnd, IsTrue, refl, sym, ap, subst, ◌∙◌, inl, inr}
-use Rattle.std.specs.Prelude.{slice_get, unwrap_or, if◌then◌else◌, ◌==◌}
+use Rattle.std.proofs.Common.{◌≡◌, ℕ, ◌+◌, ◌≤◌, Bool, true, false, cond, List, length, Option, Some, None, IsSomeAnd, refl, sym, ap, subst, ◌∙◌, inl, inr}
+use Rattle.std.specs.Prelude.{unwrap_or, if◌then◌else◌, ◌==◌}
 use Rattle.std.proofs.lemmas.Bool.{eq-eqb}
-use Rattle.store_io.specs.Whole.{EachImage, IsImage}
-use Rattle.gated_log.specs.Log.{payloads_of}
-use Rattle.transactions_file.specs.Inventory.{State, inventory_of, start}
+use Rattle.transactions_file.specs.Inventory.{State, start}
 use Rattle.graph_model.specs.Ids.{has}
 use Rattle.graph_model.specs.declared.entity.Record.{Record}
 use Rattle.graph_model.specs.declared.entity.StoreOp.{StoreOp}
 use Rattle.core_steps.specs.Core.{next_before, written_of}
 use Rattle.core_steps.specs.Told.{Tried, TriedPart, TriedType}
 use Rattle.core_steps.specs.declared.state.Book.{Book}
-use Rattle.core_steps.specs.declared.state.OpenStore.{OpenStore}
-use Rattle.channel.specs.Core.{core_of, last_part, log_next_id}
-use Rattle.channel.specs.Holding.{AreAlike, HasGained, holding}
+use Rattle.channel.specs.Core.{last_part, log_next_id}
+use Rattle.channel.specs.Holding.{AreAlike, holding}
 use Rattle.channel.specs.Images.{Image, next_at, state_of}
 use Rattle.channel.specs.Left.{EndsOrTried, HasTriedPart}
 use Rattle.channel.specs.OnDisk.{IsOnDisk, entity_at}

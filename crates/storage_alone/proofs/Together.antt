@@ -1,8 +1,7 @@
 -- A storage stands once its core does, its channels are tied to the disks, and channel 0 keeps the types.
-use Rattle.std.proofs.Common.{◌≡◌, ◌⊎◌, ◌↔◌, ℕ, ◌+◌, ◌<◌, ◌≤◌, Bool, true, false, cond, IsTrue, List, [], ◌∷◌, length, map, Option, Some, None, refl, sym, ap, subst, ◌∙◌, ⊎_elim}
+use Rattle.std.proofs.Common.{◌≡◌, ℕ, ◌+◌, ◌<◌, Bool, false, cond, IsTrue, List, length, Option, Some, None, sym, ap, subst, ◌∙◌, ⊎_elim}
 use Rattle.std.specs.Prelude.{slice_get}
 use Rattle.std.proofs.lemmas.Option.{slice_get_within}
-use Rattle.store_io.specs.Whole.{EachImage, IsImage}
 use Rattle.graph_model.specs.Ids.{has}
 use Rattle.graph_model.specs.declared.entity.StoreOp.{StoreOp}
 use Rattle.core_steps.specs.Core.{next_before, written_of}
@@ -10,14 +9,11 @@ use Rattle.core_steps.specs.Told.{Tried}
 use Rattle.core_steps.specs.declared.state.Book.{Book}
 use Rattle.core_steps.specs.declared.state.OpenStore.{OpenStore}
 use Rattle.type_desc.specs.declared.desc.TypeDesc.{TypeDesc}
-use Rattle.channel.specs.Core.{last_part}
-use Rattle.channel.specs.Holding.{AreAlike, holding}
-use Rattle.channel.specs.Images.{Image}
+use Rattle.channel.specs.Holding.{holding}
 use Rattle.channel.specs.Shown.{DiskTable, EndsAt}
 use Rattle.channel.specs.State.{ChannelState}
-use Rattle.recovery.specs.Alone.{AloneState, Serves, Stands, core_with}
+use Rattle.recovery.specs.Alone.{AloneState, Serves, Stands}
 use Rattle.recovery.specs.Disks.{part_in}
-use Rattle.recovery.specs.Stored.{HasTypes}
 use Rattle.storage_alone.specs.Standing.{IsStanding}
 use Rattle.storage_alone.specs.Steady.{IsSteady}
 use Rattle.storage_alone.specs.Tied.{AreTied, IsHeldWith, IsOnCore, IsRightTry, IsTied}

@@ -1,5 +1,5 @@
 -- Each image has the types that channel 0 keeps, or those with one that was tried in vain.
-use Rattle.std.proofs.Common.{◌≡◌, ◌⊎◌, ◌↔◌, ℕ, Bool, false, IsTrue, IsSome, IsSomeAnd, IfSome, List, [], ◌∷◌, ◌++◌, length, Option, Some, None, refl, sym, ap, subst, ◌∙◌, inl, inr, ⊎_elim}
+use Rattle.std.proofs.Common.{◌≡◌, ◌⊎◌, ℕ, IsSome, IsSomeAnd, IfSome, List, [], ◌∷◌, ◌++◌, Option, Some, None, sym, ap, subst, ◌∙◌, inl, inr}
 use Rattle.gated_log.specs.Log.{IsLogOf, payloads_of}
 use Rattle.gated_log.specs.State.{LogState}
 use Rattle.gated_log.proofs.Payloads.{log_payloads}
@@ -10,7 +10,7 @@ use Rattle.type_dictionary.specs.Records.{records_from}
 use Rattle.channel.specs.Core.{types_kept}
 use Rattle.channel.specs.Images.{Image}
 use Rattle.channel.specs.Left.{HoldsOrTried, HoldsTried}
-use Rattle.channel.specs.OnDisk.{HoldsChannel, HoldsPart, HoldsWith}
+use Rattle.channel.specs.OnDisk.{HoldsChannel, HoldsPart}
 use Rattle.channel.specs.State.{ChannelState}
 use Rattle.recovery.specs.Images.{types_header}
 use Rattle.recovery.specs.Stored.{HasTypes}

@@ -1,5 +1,5 @@
 -- What the asks of a session are to a storage on one thread.
-use Rattle.std.specs.Prelude.{◌≡◌, ℕ, ◌≤◌, ◌<◌, ◌^◌, Bool, true, List, [], ◌∷◌, length, map, slice_get, Result, Ok, Err, Some}
+use Rattle.std.specs.Prelude.{◌≡◌, ℕ, ◌≤◌, ◌<◌, ◌^◌, Bool, true, List, length, map, slice_get, Result, Ok, Err, Some}
 use Rattle.std.specs.List.{AllByRecursion}
 use Rattle.graph_model.specs.Graph.{ids}
 use Rattle.graph_model.specs.Ids.{rises}

@@ -1,7 +1,7 @@
 -- What a channel gives away of itself by its invariant.
 use Rattle.std.specs.Prelude.{◌≡◌, ℕ, Bool, false, IsTrue, List}
 use Rattle.store_io.specs.Whole.{EachImage}
-use Rattle.channel.specs.Left.{EndsOrTried, HoldsOrTried, IsLeft}
+use Rattle.channel.specs.Left.{EndsOrTried, HoldsOrTried}
 use Rattle.channel.specs.OnDisk.{HoldsChannel}
 use Rattle.channel.specs.Sound.{IsSound}
 use Rattle.channel.specs.State.{ChannelState}

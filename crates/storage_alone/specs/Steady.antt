@@ -1,5 +1,5 @@
 -- A storage between two asks, whether or not its disks tell what they hold.
-use Rattle.std.specs.Prelude.{◌≡◌, ℕ, ◌<◌, ◌≤◌, ◌^◌, false, List, [], length, slice_get, Option, Some, None, IfSome}
+use Rattle.std.specs.Prelude.{◌≡◌, ℕ, ◌<◌, ◌≤◌, ◌^◌, false, List, length, slice_get, Option, Some, None, IfSome}
 use Rattle.graph_model.specs.declared.entity.Record.{Record}
 use Rattle.core_steps.specs.declared.unit.Ending.TheVariants.{Sound}
 use Rattle.channel.specs.declared.phase.Stage.TheVariants.{Idle}

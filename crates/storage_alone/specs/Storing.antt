@@ -1,5 +1,5 @@
 -- A storage in which a store is made.
-use Rattle.std.specs.Prelude.{◌≡◌, ℕ, ◌+◌, ◌<◌, ◌≤◌, ◌^◌, Bool, true, false, cond, nat_lt, List, length, slice_get, Option, Some, None}
+use Rattle.std.specs.Prelude.{◌≡◌, ℕ, ◌+◌, ◌<◌, ◌≤◌, ◌^◌, cond, nat_lt, List, length, slice_get, Option, Some, None}
 use Rattle.std.specs.List.{filter}
 use Rattle.graph_model.specs.Ids.{has}
 use Rattle.graph_model.specs.declared.entity.Record.{Record}

@@ -1,9 +1,8 @@
 -- The six clauses are one lemma, by how the look-up ends.
-use Rattle.std.proofs.Common.{rules, ◌≡◌, ℕ, length, set, take, drop, ◌++◌, ◌≤◌, arith, List, IfOk, Option, Some, Result, Ok, Err, refl, sym, ap, subst, ◌∙◌}
+use Rattle.std.proofs.Common.{◌≡◌, ℕ, length, set, take, drop, ◌++◌, ◌≤◌, arith, List, IfOk, Some, Result, Ok, Err, refl, sym, ap, subst, ◌∙◌}
 use Rattle.std.specs.Prelude.{slice_get}
 use Rattle.std.proofs.lemmas.Option.{slice_get_read}
 use Rattle.std.proofs.lemmas.List.{take-append-le, take-take}
-use Rattle.channel.specs.State.{ChannelState}
 use Rattle.channel.specs.declared.fault.ChannelFault.{ChannelFault}
 use Rattle.graph_model.specs.declared.ask.StorageFault.{StorageFault}
 use Rattle.graph_model.specs.declared.ask.Reply.{Reply}
