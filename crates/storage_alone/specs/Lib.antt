@@ -1,0 +1,4 @@
+pub mod Steady
+pub mod Faults
+pub mod Asks
+pub mod Holding
