@@ -36,13 +36,17 @@ set_at xs k j y was x there is = elim (cases_eq j k) [
   | inr n ↦ inr (n, sym (get_set_else xs k j y n) ∙ is)
 ]
 
+-- the storage once channel j and the hand have changed
+abbrev pub with_channel : {D : Type 0} → AloneState D → ℕ → ChannelState D → Hand → AloneState D
+with_channel s j d h = record { channels = set s.channels j d; monitor = s.monitor; hand = h }
+
+-- the storage once the monitor and the hand have changed
+abbrev pub with_monitor : {D : Type 0} → AloneState D → CoreMonitor → Hand → AloneState D
+with_monitor s m h = record { channels = s.channels; monitor = m; hand = h }
+
 module _ {D : Type 0} (reads : D → ℕ → List ℕ) (leaves : D → ℕ → List ℕ → Bool) where
   abbrev cores : List (ChannelState D) → List CoreChannel
   cores cs = map (λ (c : ChannelState D). core_of reads c) cs
-
-  -- the storage once channel j and the hand have changed
-  abbrev pub with_channel : AloneState D → ℕ → ChannelState D → Hand → AloneState D
-  with_channel s j d h = record { channels = set s.channels j d; monitor = s.monitor; hand = h }
 
   pub channel_step_made : (s : AloneState D) (b : Book) (j : ℕ) (c d : ChannelState D) (h : Hand) (e : Event) → slice_get s.channels j ≡ Some c
       → permits b (held (cores s.channels)) 0 e ≡ true → book_after b e ≡ b
@@ -51,16 +55,12 @@ module _ {D : Type 0} (reads : D → ℕ → List ℕ) (leaves : D → ℕ → L
   channel_step_made s b j c d h e there may stays made =
       let core = core_with reads leaves s b in
       let here : part_of (slice_get (cores s.channels) j) (nat_eq j (length (cores s.channels))) s.monitor ≡ Some (Channel (core_of reads c)) =
-          ap (λ (o : Option CoreChannel). part_of o (nat_eq j (length (cores s.channels))) s.monitor)
-          (slice_get-map (λ (x : ChannelState D). core_of reads x) s.channels j ∙ ap (λ (o : Option (ChannelState D)). option_map (λ (x : ChannelState D). core_of reads x) o) there) in
+      ap (λ (o : Option CoreChannel). part_of o (nat_eq j (length (cores s.channels))) s.monitor)
+      (slice_get-map (λ (x : ChannelState D). core_of reads x) s.channels j ∙ ap (λ (o : Option (ChannelState D)). option_map (λ (x : ChannelState D). core_of reads x) o) there) in
       step_is core 0 j e (Channel (core_of reads c)) (Channel (core_of reads d)) s.hand h here refl may (ap as_channel made)
       ∙ ap (λ (k : Book). Some (record { channels = set (cores s.channels) j (core_of reads d); monitor = s.monitor; hands = h ∷ []; book = k })) stays
       ∙ ap (λ (cs : List CoreChannel). Some (record { channels = cs; monitor = s.monitor; hands = h ∷ []; book = b }))
-        (sym (map-set (λ (x : ChannelState D). core_of reads x) s.channels j d))
-
-  -- the storage once the monitor and the hand have changed
-  abbrev pub with_monitor : AloneState D → CoreMonitor → Hand → AloneState D
-  with_monitor s m h = record { channels = s.channels; monitor = m; hand = h }
+      (sym (map-set (λ (x : ChannelState D). core_of reads x) s.channels j d))
 
   pub monitor_step_made : (s : AloneState D) (b : Book) (m : CoreMonitor) (h : Hand) (e : Event)
       → permits b (held (cores s.channels)) 0 e ≡ true → monitor_step s.monitor s.hand e ≡ Some (m, h)
@@ -69,6 +69,6 @@ module _ {D : Type 0} (reads : D → ℕ → List ℕ) (leaves : D → ℕ → L
       let core = core_with reads leaves s b in
       let n = length (cores s.channels) in
       let here : part_of (slice_get (cores s.channels) n) (nat_eq n n) s.monitor ≡ Some (Monitor s.monitor) =
-          ap (λ (o : Option CoreChannel). part_of o (nat_eq n n) s.monitor) (slice_get_past (cores s.channels) n (omega arith))
-          ∙ ap (λ (t : Bool). part_of None t s.monitor) (eq-eqb n n refl) in
+      ap (λ (o : Option CoreChannel). part_of o (nat_eq n n) s.monitor) (slice_get_past (cores s.channels) n (omega arith))
+      ∙ ap (λ (t : Bool). part_of None t s.monitor) (eq-eqb n n refl) in
       step_is core 0 n e (Monitor s.monitor) (Monitor m) s.hand h here refl may (ap as_monitor made)
