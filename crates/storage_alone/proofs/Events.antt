@@ -36,13 +36,17 @@ set_at xs k j y was x there is = elim (cases_eq j k) [
   | inr n ↦ inr (n, sym (get_set_else xs k j y n) ∙ is)
 ]
 
+-- the storage once channel j and the hand have changed
+abbrev pub with_channel : {D : Type 0} → AloneState D → ℕ → ChannelState D → Hand → AloneState D
+with_channel s j d h = record { channels = set s.channels j d; monitor = s.monitor; hand = h }
+
+-- the storage once the monitor and the hand have changed
+abbrev pub with_monitor : {D : Type 0} → AloneState D → CoreMonitor → Hand → AloneState D
+with_monitor s m h = record { channels = s.channels; monitor = m; hand = h }
+
 module _ {D : Type 0} (reads : D → ℕ → List ℕ) (leaves : D → ℕ → List ℕ → Bool) where
   abbrev cores : List (ChannelState D) → List CoreChannel
   cores cs = map (λ (c : ChannelState D). core_of reads c) cs
-
-  -- the storage once channel j and the hand have changed
-  abbrev pub with_channel : AloneState D → ℕ → ChannelState D → Hand → AloneState D
-  with_channel s j d h = record { channels = set s.channels j d; monitor = s.monitor; hand = h }
 
   pub channel_step_made : (s : AloneState D) (b : Book) (j : ℕ) (c d : ChannelState D) (h : Hand) (e : Event) → slice_get s.channels j ≡ Some c
       → permits b (held (cores s.channels)) 0 e ≡ true → book_after b e ≡ b
@@ -57,10 +61,6 @@ module _ {D : Type 0} (reads : D → ℕ → List ℕ) (leaves : D → ℕ → L
       ∙ ap (λ (k : Book). Some (record { channels = set (cores s.channels) j (core_of reads d); monitor = s.monitor; hands = h ∷ []; book = k })) stays
       ∙ ap (λ (cs : List CoreChannel). Some (record { channels = cs; monitor = s.monitor; hands = h ∷ []; book = b }))
         (sym (map-set (λ (x : ChannelState D). core_of reads x) s.channels j d))
-
-  -- the storage once the monitor and the hand have changed
-  abbrev pub with_monitor : AloneState D → CoreMonitor → Hand → AloneState D
-  with_monitor s m h = record { channels = s.channels; monitor = m; hand = h }
 
   pub monitor_step_made : (s : AloneState D) (b : Book) (m : CoreMonitor) (h : Hand) (e : Event)
       → permits b (held (cores s.channels)) 0 e ≡ true → monitor_step s.monitor s.hand e ≡ Some (m, h)

@@ -14,9 +14,10 @@ use Rattle.channel.specs.Core.{core_of}
 use Rattle.channel.specs.Images.{Image}
 use Rattle.channel.specs.Shown.{DiskTable, EndsAt, HasPart}
 use Rattle.channel.specs.State.{ChannelState}
-use Rattle.recovery.specs.Alone.{AloneState, IsReady, Serves, Stands, core_with}
+use Rattle.recovery.specs.Alone.{AloneState, Serves, Stands, core_with}
 use Rattle.recovery.specs.Disks.{IsImageFor, StandFor, part_in}
 use Rattle.recovery.specs.Stored.{HasTypes}
+use Rattle.storage_alone.specs.Steady.{IsSteady}
 
 -- an image of channel j of n, where this store is open and m ended
 abbrev ImageWith : ℕ → Option OpenStore → ℕ → Book → ℕ → DiskTable → Image → Type 0
@@ -24,12 +25,11 @@ ImageWith n o m b j d image = ((has j (written_of o) ≡ false) × EndsAt n j m 
     ⊎ ((op : StoreOp) × (b.opened ≡ Some op) × HasPart n j m (next_before b) (part_in n b j) op.next_id d image)
 
 module _ {D : Type 0} (reads : D → ℕ → List ℕ) (leaves : D → ℕ → List ℕ → Bool) where
-  -- channel j leaves what it left, and is ready where it was
+  -- channel j leaves what it left
   pub record Stayed (s : AloneState D) (j : ℕ) (d : ChannelState D) : Type 0 where
     pub was : ChannelState D
     pub there : slice_get s.channels j ≡ Some was
     pub left : leaves d.files.disk ≡ leaves was.files.disk
-    pub ready : (n : ℕ) → IsReady reads leaves n j was → IsReady reads leaves n j d
 
   -- so does each channel, and the stores are those that were
   pub record GoesOnAs (s t : AloneState D) : Type 0 where
@@ -79,10 +79,10 @@ module _ {D : Type 0} (reads : D → ℕ → List ℕ) (leaves : D → ℕ → L
   }
 
   pub serves_on : (s t : AloneState D) (b : Book) (disks : ℕ → DiskTable) (kept : List TypeDesc) → Serves reads leaves s b disks kept
-      → IsGood (core_with reads leaves t b) → StandFor (core_with reads leaves t b) disks → GoesOnAs s t → Serves reads leaves t b disks kept
-  serves_on s t b disks kept serves good stand on = record {
+      → IsGood (core_with reads leaves t b) → StandFor (core_with reads leaves t b) disks → GoesOnAs s t → IsSteady t → Serves reads leaves t b disks kept
+  serves_on s t b disks kept serves good stand on steady = record {
     stands = stands_on s t b disks kept kept serves.stands good stand on;
     none_open = serves.none_open;
-    ready = λ j d there. let w = on.channels j d there in
-        subst (λ (n : ℕ). IsReady reads leaves n j d) (sym on.many) (w.ready (length s.channels) (serves.ready j w.was w.there));
+    ready = λ j d there. let w = steady.channels j d there in
+        record { number = w.number; channels = w.channels; sound = w.unfailed; confirmed = w.confirmed_is ∙ sym w.last_is; none_ready = w.ready_is };
   }

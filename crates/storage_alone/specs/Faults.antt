@@ -33,6 +33,13 @@ EndsSo Fault s = SomeEnds ending.Fault s
 EndsSo (Full number) s = SomeIsFull number s
 EndsSo (Broken id) s = SomeEnds (ending.Broken id) s
 
+-- the fault is that a disk holds something else than was written to it
+abbrev pub IsBroken : StorageFault → Type 0
+IsBroken NoMemory = ⊥
+IsBroken Fault = ⊥
+IsBroken (Full number) = ⊥
+IsBroken (Broken id) = Unit {0}
+
 -- where the ask was served, and where memory ran out for it
 abbrev pub OnServed : {A : Type 0} → Result A StorageFault → Type 0 → Type 0
 OnServed (Ok a) P = P

@@ -11,9 +11,11 @@ module _ {D : Type 0} (reads : D → ℕ → List ℕ) (leaves : D → ℕ → L
   -- the storage serves on, and holds these ids too
   pub record HoldsToo (old : AloneState D) (b : Book) (disks : ℕ → DiskTable) (kept : List TypeDesc) (xs : List ℕ) (new : AloneState D) : Type 0 where
     pub serves : Serves reads leaves new b disks kept
+    pub ended : new.monitor.stores_ended ≡ old.monitor.stores_ended
     pub held : (x : ℕ) → has x (held_by reads new) ≡ (has x xs || has x (held_by reads old))
 
   -- it serves on, and holds these ids no longer
   pub record HoldsNoLonger (old : AloneState D) (b : Book) (disks : ℕ → DiskTable) (kept : List TypeDesc) (xs : List ℕ) (new : AloneState D) : Type 0 where
     pub serves : Serves reads leaves new b disks kept
+    pub ended : new.monitor.stores_ended ≡ old.monitor.stores_ended
     pub held : (x : ℕ) → has x (held_by reads new) ≡ (has x (held_by reads old) && not (has x xs))

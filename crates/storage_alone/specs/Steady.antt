@@ -1,21 +1,29 @@
 -- A storage between two asks, whether or not its disks tell what they hold.
-use Rattle.std.specs.Prelude.{◌≡◌, ℕ, ◌<◌, ◌≤◌, ◌^◌, false, List, [], length, slice_get, Some, None}
+use Rattle.std.specs.Prelude.{◌≡◌, ℕ, ◌<◌, ◌≤◌, ◌^◌, false, List, [], length, slice_get, Option, Some, None, IfSome}
+use Rattle.graph_model.specs.declared.entity.Record.{Record}
 use Rattle.core_steps.specs.declared.unit.Ending.TheVariants.{Sound}
 use Rattle.channel.specs.declared.phase.Stage.TheVariants.{Idle}
 use Rattle.channel.specs.State.{ChannelState}
 use Rattle.channel.specs.Core.{last_part}
 use Rattle.recovery.specs.Alone.{AloneState}
+use Rattle.recovery.specs.Images.{types_header}
 
--- channel j of n after m stores: no call was refused, it marks and sweeps nothing, it has its part of the last store, confirmed, and none is ready
-pub record IsSteadyChannel {D : Type 0} (n j m : ℕ) (c : ChannelState D) : Type 0 where
+-- channel j of n: no call was refused, it marks and sweeps nothing, and its log of types has its header; its last part and the last that was confirmed
+-- have these numbers, and these records are ready
+pub record IsChannelAt {D : Type 0} (n j last confirmed : ℕ) (ready : Option (List Record)) (c : ChannelState D) : Type 0 where
   pub number : c.number ≡ j
   pub channels : c.channels ≡ n
   pub sound : c.ending ≡ Sound
   pub unfailed : c.failed ≡ false
   pub idle : (cycle : ℕ) × (c.phase ≡ Idle cycle)
-  pub last : last_part c ≡ m
-  pub confirmed : c.files.confirmed ≡ m
-  pub none_ready : c.prepared ≡ None
+  pub dictionary : IfSome c.types (λ log. log.header ≡ types_header n)
+  pub last_is : last_part c ≡ last
+  pub confirmed_is : c.files.confirmed ≡ confirmed
+  pub ready_is : c.prepared ≡ ready
+
+-- after m stores it has its part of the last one, confirmed, and none is ready
+abbrev pub IsSteadyChannel : {D : Type 0} → (n j m : ℕ) → ChannelState D → Type 0
+IsSteadyChannel n j m c = IsChannelAt n j m m None c
 
 -- each channel is steady, no store is open, and no credit is out
 pub record IsSteady {D : Type 0} (s : AloneState D) : Type 0 where

@@ -61,7 +61,7 @@ impl<D: Disk> StorageAlone<D> {
     pub fn look(&mut self, id: u64) -> Result<Reply, StorageFault>
         requires steady { IsSteady self.old }
         ensures answers { IsTrue D.tells → (b : Book) (disks : ℕ → DiskTable) (kept : List TypeDesc) → Serves D.reads D.leaves self.old b disks kept
-            → IsKept (graph b) (held_by D.reads self.old) id → Answers D.reads D.leaves self.old b disks kept (asks.Look id) result self.new }
+            → IsKept (graph b) (held_by D.reads self.old) id → Answers D.reads D.leaves self.old b disks kept kept (asks.Look id) result self.new }
         ensures steady { OnServed result (IsSteady self.new) }
         ensures ends { IfErr result (λ fault. EndsSo fault self.new) }
         ensures faults { NoneFell D.faults self.old self.new }
