@@ -20,7 +20,7 @@ use Rattle.recovery.specs.Stored.{HasTypes}
 use Rattle.storage_alone.specs.Steady.{IsSteady}
 
 -- an image of channel j of n, where this store is open and m ended
-abbrev ImageWith : ℕ → Option OpenStore → ℕ → Book → ℕ → DiskTable → Image → Type 0
+abbrev pub ImageWith : ℕ → Option OpenStore → ℕ → Book → ℕ → DiskTable → Image → Type 0
 ImageWith n o m b j d image = ((has j (written_of o) ≡ false) × EndsAt n j m (next_before b) d image)
     ⊎ ((op : StoreOp) × (b.opened ≡ Some op) × HasPart n j m (next_before b) (part_in n b j) op.next_id d image)
 
@@ -39,7 +39,7 @@ module _ {D : Type 0} (reads : D → ℕ → List ℕ) (leaves : D → ℕ → L
     pub ended : t.monitor.stores_ended ≡ s.monitor.stores_ended
     pub channels : (j : ℕ) (d : ChannelState D) → slice_get t.channels j ≡ Some d → Stayed s j d
 
-  many_in : (s : AloneState D) → length (map (λ (c : ChannelState D). core_of reads c) s.channels) ≡ length s.channels
+  pub many_in : (s : AloneState D) → length (map (λ (c : ChannelState D). core_of reads c) s.channels) ≡ length s.channels
   many_in s = length-map s.channels (λ (c : ChannelState D). core_of reads c)
 
   image_for : (s t : AloneState D) (b : Book) (j : ℕ) (d : DiskTable) (image : Image) → GoesOnAs s t

@@ -5,3 +5,4 @@ pub mod Pinned
 pub mod Steadily
 pub mod Held
 pub mod Looked
+pub mod Ties
