@@ -6,3 +6,5 @@ pub mod Steadily
 pub mod Held
 pub mod Looked
 pub mod Ties
+pub mod TypesTied
+pub mod Together

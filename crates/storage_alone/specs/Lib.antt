@@ -3,3 +3,5 @@ pub mod Faults
 pub mod Asks
 pub mod Holding
 pub mod Tied
+pub mod Standing
+pub mod Storing

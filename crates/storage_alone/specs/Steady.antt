@@ -8,13 +8,14 @@ use Rattle.channel.specs.Core.{last_part}
 use Rattle.recovery.specs.Alone.{AloneState}
 use Rattle.recovery.specs.Images.{types_header}
 
--- channel j of n: no call was refused, it marks and sweeps nothing, and its log of types has its header; its last part and the last that was confirmed
+-- channel j of n: no call was refused, nothing was tried in vain, it marks and sweeps nothing, and its log of types has its header; its last part and the last that was confirmed
 -- have these numbers, and these records are ready
 pub record IsChannelAt {D : Type 0} (n j last confirmed : ℕ) (ready : Option (List Record)) (c : ChannelState D) : Type 0 where
   pub number : c.number ≡ j
   pub channels : c.channels ≡ n
   pub sound : c.ending ≡ Sound
   pub unfailed : c.failed ≡ false
+  pub untried : c.tried ≡ None
   pub idle : (cycle : ℕ) × (c.phase ≡ Idle cycle)
   pub dictionary : IfSome c.types (λ log. log.header ≡ types_header n)
   pub last_is : last_part c ≡ last
@@ -25,14 +26,18 @@ pub record IsChannelAt {D : Type 0} (n j last confirmed : ℕ) (ready : Option (
 abbrev pub IsSteadyChannel : {D : Type 0} → (n j m : ℕ) → ChannelState D → Type 0
 IsSteadyChannel n j m c = IsChannelAt n j m m None c
 
--- each channel is steady, no store is open, and no credit is out
-pub record IsSteady {D : Type 0} (s : AloneState D) : Type 0 where
+-- no store is open and no credit is out, and each channel has its part of the last store, confirmed; on channel j this is ready
+pub record IsBetweenStores {D : Type 0} (ready : ℕ → Option (List Record)) (s : AloneState D) : Type 0 where
   pub some : 0 < length s.channels
   pub few : length s.channels ≤ 64
-  pub channels : (j : ℕ) (c : ChannelState D) → slice_get s.channels j ≡ Some c → IsSteadyChannel (length s.channels) j s.monitor.stores_ended c
+  pub channels : (j : ℕ) (c : ChannelState D) → slice_get s.channels j ≡ Some c → IsChannelAt (length s.channels) j s.monitor.stores_ended s.monitor.stores_ended (ready j) c
   pub flags : length s.monitor.begun ≡ length s.channels
   pub none_open : s.hand.opened ≡ None
   pub all_ended : s.monitor.stores_begun ≡ s.monitor.stores_ended
   pub most : s.monitor.stores_ended ≤ 2 ^ 63
   pub no_credit : s.hand.credit ≡ 0
   pub none_pending : s.monitor.pending ≡ 0
+
+-- between two asks nothing is ready
+abbrev pub IsSteady : {D : Type 0} → AloneState D → Type 0
+IsSteady s = IsBetweenStores (λ j. None) s

@@ -1,5 +1,5 @@
 -- How what the channels' disks hold is tied to the stores: to what each disk held when the last store ended.
-use Rattle.std.specs.Prelude.{◌≡◌, ℕ, ◌+◌, ◌≤◌, Bool, true, false, cond, List, ◌∷◌, [], ◌++◌, length, Option, Some, None, IsSomeAnd}
+use Rattle.std.specs.Prelude.{◌≡◌, ℕ, ◌+◌, ◌≤◌, Bool, true, false, cond, List, ◌∷◌, [], ◌++◌, length, slice_get, Option, Some, None, IsSomeAnd}
 use Rattle.std.specs.List.{AllByRecursion}
 use Rattle.graph_model.specs.Ids.{has}
 use Rattle.graph_model.specs.declared.entity.Record.{Record}
@@ -13,8 +13,9 @@ use Rattle.channel.specs.Core.{last_part, types_kept}
 use Rattle.channel.specs.Holding.{AreAlike, HasGained, Holding, holding}
 use Rattle.channel.specs.Shown.{DiskTable}
 use Rattle.channel.specs.State.{ChannelState}
-use Rattle.recovery.specs.Alone.{AloneState}
-use Rattle.recovery.specs.Disks.{part_in}
+use Rattle.recovery.specs.Alone.{AloneState, core_with}
+use Rattle.core_steps.specs.Good.{IsGood}
+use Rattle.recovery.specs.Disks.{BookHasForms, IsWholeBook, StandFor, part_in}
 use Rattle.recovery.specs.Images.{types_header}
 
 -- the disk of a channel that has its part of the open store gained that over d; any other one holds d
@@ -57,3 +58,22 @@ pub record KeepsTypes {D : Type 0} (reads : D → ℕ → List ℕ) (n : ℕ) (k
   pub text : IsRightText c.tried kept tried
   pub kept_are : AreTypes kept
   pub tried_are : AreTypes tried
+
+-- each channel is tied to its disk, and channel 0 keeps the types
+pub record AreTied {D : Type 0} (reads : D → ℕ → List ℕ) (s : AloneState D) (b : Book) (disks : ℕ → DiskTable) (kept tried : List TypeDesc) : Type 0 where
+  pub each : (j : ℕ) (c : ChannelState D) → slice_get s.channels j ≡ Some c → IsTied reads s b (disks j) j c
+  pub types : (c : ChannelState D) → slice_get s.channels 0 ≡ Some c → KeepsTypes reads (length s.channels) kept tried c
+
+-- the storage stands for a good core with this book, and what each disk held when the last store ended for that core
+pub record IsOnCore {D : Type 0} (reads : D → ℕ → List ℕ) (leaves : D → ℕ → List ℕ → Bool) (s : AloneState D) (b : Book) (disks : ℕ → DiskTable) (kept tried : List TypeDesc) : Type 0 where
+  pub good : IsGood (core_with reads leaves s b)
+  pub format : s.monitor.format ≡ 1
+  pub stand : StandFor (core_with reads leaves s b) disks
+  pub whole : IsWholeBook b
+  pub forms : BookHasForms kept b
+  pub forms_tried : BookHasForms tried b
+
+-- both, while a store is made
+pub record AreOnCore {D : Type 0} (reads : D → ℕ → List ℕ) (leaves : D → ℕ → List ℕ → Bool) (s : AloneState D) (b : Book) (disks : ℕ → DiskTable) (kept : List TypeDesc) : Type 0 where
+  pub core : IsOnCore reads leaves s b disks kept kept
+  pub tied : AreTied reads s b disks kept kept
