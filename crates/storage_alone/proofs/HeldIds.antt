@@ -3,8 +3,8 @@ use Rattle.std.proofs.Common.{◌≡◌, ◌≢◌, ℕ, ◌<◌, Bool, true, fa
 use Rattle.std.specs.Prelude.{nat_eq, nat_lt}
 use Rattle.std.proofs.lemmas.Bool.{and_parts, cases_Bool, cases_eq, eq-eqb, eqb-true, ltb-true, ne_eqb, or_cases}
 use Rattle.std.proofs.lemmas.List.{get_or-set_same, get_or-set_other, length-set}
-use Rattle.graph_model.specs.Ids.{add, has, remove, rises, rises_from}
-use Rattle.graph_model.proofs.IdSets.{has_add, has_other}
+use Rattle.graph_model.specs.Ids.{add, add_all, has, remove, rises, rises_from}
+use Rattle.graph_model.proofs.IdSets.{has_add, has_add_all, has_other}
 use Rattle.core_steps.specs.declared.state.CoreChannel.{CoreChannel}
 use Rattle.core_steps.specs.Core.{Core, channel_at, held, home, no_channel}
 use Rattle.core_steps.specs.Good.{IsGood, channel_of}
@@ -109,3 +109,14 @@ removed_gone x (y ∷ ys) r = by (removed_gone x ys (rises_behind y ys r)) (nat_
     by gone true e = let same = eqb-true x y e in
         ⊎_elim (λ h. let low = above y x ys r h in absurd (omega arith)) (λ n. n) (cases_Bool (has x ys))
     by gone false e = ap (λ (b : Bool). b || has x (remove x ys)) e ∙ gone
+
+-- ---- a channel gains its part of a store
+
+module _ (c d : Core) (k : ℕ) (y : CoreChannel) (changed : ChangedAt c d k y) where
+  -- the ids of the part are held too
+  pub held_stored : (xs : List ℕ) → ((x : ℕ) → has x xs ≡ true → home (length c.channels) x ≡ k) → y.pins ≡ add_all xs (channel_at c.channels k).pins
+      → (x : ℕ) → has x (held d.channels) ≡ (has x xs || has x (held c.channels))
+  held_stored xs own pins x = elim (cases_eq (home (length c.channels) x) k) [
+    | inl e ↦ here c d k y changed x e ∙ ap (has x) pins ∙ has_add_all x xs (channel_at c.channels k).pins ∙ ap (λ (b : Bool). has x xs || b) (sym (here_before c d k y changed x e))
+    | inr n ↦ elsewhere c d k y changed x n ∙ ap (λ (b : Bool). b || has x (held c.channels)) (sym (⊎_elim (λ h. absurd (n (own x h))) (λ f. f) (cases_Bool (has x xs))))
+  ]

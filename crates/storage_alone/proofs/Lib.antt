@@ -8,3 +8,6 @@ pub mod Looked
 pub mod Ties
 pub mod TypesTied
 pub mod Together
+pub mod HoldAlls
+pub mod Opened
+pub mod PartIds
