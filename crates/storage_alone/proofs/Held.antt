@@ -8,8 +8,8 @@ use Rattle.graph_model.specs.declared.entity.Record.{Record}
 use Rattle.core_steps.specs.Core.{Core, Hand, channel_at, graph, held, home, is_idle, no_channel}
 use Rattle.core_steps.specs.Good.{IsGood}
 use Rattle.core_steps.specs.Rows.{channel_step, monitor_step, pinned}
-use Rattle.core_steps.specs.Rows.{Place}
-use Rattle.core_steps.specs.Steps.{place_in}
+use Rattle.core_steps.specs.declared.state.Place.{Place}
+use Rattle.core_steps.specs.Steps.{place_in, step}
 use Rattle.core_steps.specs.declared.event.Event.{Event}
 use Rattle.core_steps.specs.declared.event.Event.TheVariants.{Pin, Reserve, Return, Unpin}
 use Rattle.core_steps.specs.declared.state.Book.{Book}
@@ -23,8 +23,8 @@ use Rattle.channel.specs.Core.{core_of, place_with}
 use Rattle.channel.specs.Shown.{DiskTable}
 use Rattle.channel.specs.State.{ChannelState}
 use Rattle.recovery.specs.Alone.{AloneState, Serves, core_with}
-use Rattle.recovery.specs.Disks.{StandFor}
-use Rattle.recovery.proofs.Standing.{stand_step}
+use Rattle.recovery.specs.Disks.{StandFor, disks_after}
+use Rattle.core_steps.specs.declared.event.Step.{Step}
 use Rattle.storage_alone.specs.Asks.{held_by}
 use Rattle.storage_alone.specs.Steady.{IsSteady}
 use Rattle.storage_alone.specs.Holding.{HoldsNoLonger, HoldsToo}
@@ -32,6 +32,10 @@ use Rattle.storage_alone.proofs.Events.{alone_at, channel_step_made, monitor_ste
 use Rattle.storage_alone.proofs.Frames.{GoesOnAs, Stayed, serves_on}
 use Rattle.storage_alone.proofs.Pinned.{PaysOnly, pin_made, reserved, returned, unpin_made}
 use Rattle.storage_alone.proofs.HeldIds.{ChangedAt, held_added, held_removed, removed_gone}
+
+-- the law of `recovery` that disks go on to stand for the core
+abbrev pub StandsOn : Type 0
+StandsOn = (c : Core) (disks : ℕ → DiskTable) (s : Step) (d : Core) → IsGood c → StandFor c disks → step c s ≡ Some d → StandFor d (disks_after c s.event disks)
 
 module _ {D : Type 0} (reads : D → ℕ → List ℕ) (leaves : D → ℕ → List ℕ → Bool) where
   -- the core is good, and the disks stand for it
@@ -43,22 +47,22 @@ module _ {D : Type 0} (reads : D → ℕ → List ℕ) (leaves : D → ℕ → L
   upright s b disks kept serves = record { good = serves.stands.good; stand = serves.stands.stand }
 
   -- an event of the monitor that leaves book and disks alone
-  pub upright_monitor : (s : AloneState D) (b : Book) (disks : ℕ → DiskTable) (n : ℕ) (m : CoreMonitor) (h : Hand) → IsUpright s b disks
+  pub upright_monitor : (law : StandsOn) (s : AloneState D) (b : Book) (disks : ℕ → DiskTable) (n : ℕ) (m : CoreMonitor) (h : Hand) → IsUpright s b disks
       → monitor_step s.monitor s.hand (Reserve n) ≡ Some (m, h) → IsUpright (with_monitor s m h) b disks
-  upright_monitor s b disks n m h up e =
+  upright_monitor law s b disks n m h up e =
       let made = monitor_step_made reads leaves s b m h (Reserve n) refl e in
       let k = length (map (λ (c : ChannelState D). core_of reads c) s.channels) in record {
         good = good_step (core_with reads leaves s b) (alone_at k (Reserve n)) (core_with reads leaves (with_monitor s m h) b) up.good made;
-        stand = stand_step (core_with reads leaves s b) disks (alone_at k (Reserve n)) (core_with reads leaves (with_monitor s m h) b) up.good up.stand made;
+        stand = law (core_with reads leaves s b) disks (alone_at k (Reserve n)) (core_with reads leaves (with_monitor s m h) b) up.good up.stand made;
       }
 
-  pub upright_return : (s : AloneState D) (b : Book) (disks : ℕ → DiskTable) (n : ℕ) (m : CoreMonitor) (h : Hand) → IsUpright s b disks
+  pub upright_return : (law : StandsOn) (s : AloneState D) (b : Book) (disks : ℕ → DiskTable) (n : ℕ) (m : CoreMonitor) (h : Hand) → IsUpright s b disks
       → monitor_step s.monitor s.hand (Return n) ≡ Some (m, h) → IsUpright (with_monitor s m h) b disks
-  upright_return s b disks n m h up e =
+  upright_return law s b disks n m h up e =
       let made = monitor_step_made reads leaves s b m h (Return n) refl e in
       let k = length (map (λ (c : ChannelState D). core_of reads c) s.channels) in record {
         good = good_step (core_with reads leaves s b) (alone_at k (Return n)) (core_with reads leaves (with_monitor s m h) b) up.good made;
-        stand = stand_step (core_with reads leaves s b) disks (alone_at k (Return n)) (core_with reads leaves (with_monitor s m h) b) up.good up.stand made;
+        stand = law (core_with reads leaves s b) disks (alone_at k (Return n)) (core_with reads leaves (with_monitor s m h) b) up.good up.stand made;
       }
 
   pub many_cores : (s : AloneState D) → length (map (λ (c : ChannelState D). core_of reads c) s.channels) ≡ length s.channels
@@ -78,24 +82,24 @@ module _ {D : Type 0} (reads : D → ℕ → List ℕ) (leaves : D → ℕ → L
       ∙ ap (λ (k : ℕ). record { number = j; channels = k; records = part }) (at.channels ∙ sym (many_cores s)))
 
   -- a pin
-  pub upright_pin : (s : AloneState D) (b : Book) (disks : ℕ → DiskTable) (j : ℕ) (c d : ChannelState D) (h : Hand) (x : ℕ) → IsUpright s b disks → IsPlaced s j c
+  pub upright_pin : (law : StandsOn) (s : AloneState D) (b : Book) (disks : ℕ → DiskTable) (j : ℕ) (c d : ChannelState D) (h : Hand) (x : ℕ) → IsUpright s b disks → IsPlaced s j c
       → may_hold (graph b) (held_by reads s) x ≡ true
       → ((part : List Record) → channel_step (place_with c part) (core_of reads c) s.hand (Pin x) ≡ Some (core_of reads d, h)) → IsUpright (with_channel s j d h) b disks
-  upright_pin s b disks j c d h x up at may e =
+  upright_pin law s b disks j c d h x up at may e =
       let t = placed_there s b j c at in
       let made = channel_step_made reads leaves s b j c d h (Pin x) at.there may refl (subst (λ (p : Place). channel_step p (core_of reads c) s.hand (Pin x) ≡ Some (core_of reads d, h)) t.1 (e t.0)) in record {
         good = good_step (core_with reads leaves s b) (alone_at j (Pin x)) (core_with reads leaves (with_channel s j d h) b) up.good made;
-        stand = stand_step (core_with reads leaves s b) disks (alone_at j (Pin x)) (core_with reads leaves (with_channel s j d h) b) up.good up.stand made;
+        stand = law (core_with reads leaves s b) disks (alone_at j (Pin x)) (core_with reads leaves (with_channel s j d h) b) up.good up.stand made;
       }
 
   -- a pin that is taken away
-  pub upright_unpin : (s : AloneState D) (b : Book) (disks : ℕ → DiskTable) (j : ℕ) (c d : ChannelState D) (h : Hand) (x : ℕ) → IsUpright s b disks → IsPlaced s j c
+  pub upright_unpin : (law : StandsOn) (s : AloneState D) (b : Book) (disks : ℕ → DiskTable) (j : ℕ) (c d : ChannelState D) (h : Hand) (x : ℕ) → IsUpright s b disks → IsPlaced s j c
       → ((part : List Record) → channel_step (place_with c part) (core_of reads c) s.hand (Unpin x) ≡ Some (core_of reads d, h)) → IsUpright (with_channel s j d h) b disks
-  upright_unpin s b disks j c d h x up at e =
+  upright_unpin law s b disks j c d h x up at e =
       let t = placed_there s b j c at in
       let made = channel_step_made reads leaves s b j c d h (Unpin x) at.there refl refl (subst (λ (p : Place). channel_step p (core_of reads c) s.hand (Unpin x) ≡ Some (core_of reads d, h)) t.1 (e t.0)) in record {
         good = good_step (core_with reads leaves s b) (alone_at j (Unpin x)) (core_with reads leaves (with_channel s j d h) b) up.good made;
-        stand = stand_step (core_with reads leaves s b) disks (alone_at j (Unpin x)) (core_with reads leaves (with_channel s j d h) b) up.good up.stand made;
+        stand = law (core_with reads leaves s b) disks (alone_at j (Unpin x)) (core_with reads leaves (with_channel s j d h) b) up.good up.stand made;
       }
 
   -- ---- a channel changed its rows alone
@@ -146,7 +150,7 @@ module _ {D : Type 0} (reads : D → ℕ → List ℕ) (leaves : D → ℕ → L
   no_id true b = refl
   no_id false b = refl
 
-  pub held_too : (s : AloneState D) (b : Book) (disks : ℕ → DiskTable) (kept : List TypeDesc) (j : ℕ) (c d : ChannelState D) (id n : ℕ) (m1 m2 : CoreMonitor) (h1 h2 h3 : Hand)
+  pub held_too : (law : StandsOn) (s : AloneState D) (b : Book) (disks : ℕ → DiskTable) (kept : List TypeDesc) (j : ℕ) (c d : ChannelState D) (id n : ℕ) (m1 m2 : CoreMonitor) (h1 h2 h3 : Hand)
       → Serves reads leaves s b disks kept → IsPlaced s j c → home (length s.channels) id ≡ j → is_idle (core_of reads c).phase ≡ true
       → may_hold (graph b) (held_by reads s) id ≡ true → leaves d.files.disk ≡ leaves c.files.disk
       → monitor_step s.monitor s.hand (Reserve 1) ≡ Some (m1, h1)
@@ -154,14 +158,14 @@ module _ {D : Type 0} (reads : D → ℕ → List ℕ) (leaves : D → ℕ → L
       → monitor_step m1 h2 (Return n) ≡ Some (m2, h3)
       → IsSteady (record { channels = set s.channels j d; monitor = m2; hand = h3 })
       → HoldsToo reads leaves s b disks kept (id ∷ []) (record { channels = set s.channels j d; monitor = m2; hand = h3 })
-  held_too s b disks kept j c d id n m1 m2 h1 h2 h3 serves at is_home idle may left reserves pins returns steady =
+  held_too law s b disks kept j c d id n m1 m2 h1 h2 h3 serves at is_home idle may left reserves pins returns steady =
       let s1 = with_monitor s m1 h1 in
       let s2 = with_channel s1 j d h2 in
       let s3 = with_monitor s2 m2 h3 in
       let up = upright s b disks kept serves in
-      let up1 = upright_monitor s b disks 1 m1 h1 up reserves in
-      let up2 = upright_pin s1 b disks j c d h2 id up1 (record { there = at.there; number = at.number; channels = at.channels }) may pins in
-      let up3 = upright_return s2 b disks n m2 h3 up2 returns in
+      let up1 = upright_monitor law s b disks 1 m1 h1 up reserves in
+      let up2 = upright_pin law s1 b disks j c d h2 id up1 (record { there = at.there; number = at.number; channels = at.channels }) may pins in
+      let up3 = upright_return law s2 b disks n m2 h3 up2 returns in
       let paid1 = (reserved s.monitor s.hand 1 m1 h1 reserves).0 in
       let pinned_ = pin_made (place_with c []) (core_of reads c) (core_of reads d) h1 h2 id idle (pins []) in
       let paid2 = (returned m1 h2 n m2 h3 returns).0 in
@@ -182,14 +186,14 @@ module _ {D : Type 0} (reads : D → ℕ → List ℕ) (leaves : D → ℕ → L
             ∙ one_id (nat_eq x id) (has x (held_by reads s));
       }
 
-  pub held_no_longer : (s : AloneState D) (b : Book) (disks : ℕ → DiskTable) (kept : List TypeDesc) (j : ℕ) (c d : ChannelState D) (id : ℕ) (h1 : Hand)
+  pub held_no_longer : (law : StandsOn) (s : AloneState D) (b : Book) (disks : ℕ → DiskTable) (kept : List TypeDesc) (j : ℕ) (c d : ChannelState D) (id : ℕ) (h1 : Hand)
       → Serves reads leaves s b disks kept → IsPlaced s j c → home (length s.channels) id ≡ j → leaves d.files.disk ≡ leaves c.files.disk
       → ((part : List Record) → channel_step (place_with c part) (core_of reads c) s.hand (Unpin id) ≡ Some (core_of reads d, h1)) → IsSteady (with_channel s j d h1)
       → HoldsNoLonger reads leaves s b disks kept (id ∷ []) (with_channel s j d h1)
-  held_no_longer s b disks kept j c d id h1 serves at is_home left unpins steady =
+  held_no_longer law s b disks kept j c d id h1 serves at is_home left unpins steady =
       let s1 = with_channel s j d h1 in
       let up = upright s b disks kept serves in
-      let up1 = upright_unpin s b disks j c d h1 id up at unpins in
+      let up1 = upright_unpin law s b disks j c d h1 id up at unpins in
       let made = unpin_made (place_with c []) (core_of reads c) (core_of reads d) s.hand h1 id (unpins []) in
       let paid : PaysOnly s.monitor s.hand s.monitor h1 = record { format = refl; begun = refl; stores_begun = refl; stores_ended = refl; opened = ap (λ (h : Hand). h.opened) made.1 } in
       let g = got_core s j c at.there in

@@ -11,3 +11,4 @@ pub mod Together
 pub mod HoldAlls
 pub mod Opened
 pub mod PartIds
+pub mod LookEnds

@@ -31,7 +31,7 @@ module _ {D : Type 0} (reads : D → ℕ → List ℕ) (leaves : D → ℕ → L
   abbrev pub with_read : AloneState D → ℕ → ChannelState D → AloneState D
   with_read s j d = record { channels = set s.channels j d; monitor = s.monitor; hand = s.hand }
 
-  pays_nothing : (s : AloneState D) → PaysOnly s.monitor s.hand s.monitor s.hand
+  pub pays_nothing : (s : AloneState D) → PaysOnly s.monitor s.hand s.monitor s.hand
   pays_nothing s = record { format = refl; begun = refl; stores_begun = refl; stores_ended = refl; opened = refl }
 
   -- the cores stay where the channel's does

@@ -27,13 +27,13 @@ use Rattle.storage_alone.proofs.Frames.{ImageWith, many_in}
 
 module _ {D : Type 0} (reads : D → ℕ → List ℕ) (leaves : D → ℕ → List ℕ → Bool) where
   module _ (s : AloneState D) (b : Book) (d : DiskTable) (j : ℕ) (c : ChannelState D) (image : Image) (tied : IsTied reads s b d j c) (high : d.next_id ≤ next_before b) where
-    n : ℕ
+    abbrev n : ℕ
     n = length s.channels
 
-    m : ℕ
+    abbrev m : ℕ
     m = s.monitor.stores_ended
 
-    part : List Record
+    abbrev part : List Record
     part = part_in n b j
 
     -- from the channel's own place to that of the storage
@@ -68,11 +68,11 @@ module _ {D : Type 0} (reads : D → ℕ → List ℕ) (leaves : D → ℕ → L
 
     by : (w : Bool) (o : Option StoreOp) → has j (written_of s.hand.opened) ≡ w → b.opened ≡ o → IsHeldWith w part o d (holding reads c)
         → IsRightTry c.tried c.prepared w part o → last_part c ≡ cond w (m + 1) m → EndsOrTried reads c image → ImageWith n s.hand.opened m b j d image
-    by false o no is held right last (inl ends) = inl (no, ends_here last (image_ended reads c d (next_before b) image held (low held) ends))
-    by false o no is held right last (inr tried) = tried_here c.tried o is last held right tried
-    by true None yes is held right last ends = absurd held
-    by true (Some op) yes is held right last (inl ends) = inr (op, is, part_here m op.next_id refl (image_opened reads c d m op.next_id (next_before b) part image last held high ends))
-    by true (Some op) yes is held right last (inr tried) = absurd (nothing_tried c.tried (Some op) right tried)
+    by false o lacks is held right last (inl ends) = inl (lacks, ends_here last (image_ended reads c d (next_before b) image held (low held) ends))
+    by false o lacks is held right last (inr tried) = tried_here c.tried o is last held right tried
+    by true None has_it is held right last ends = absurd held
+    by true (Some op) has_it is held right last (inl ends) = inr (op, is, part_here m op.next_id refl (image_opened reads c d m op.next_id (next_before b) part image last held high ends))
+    by true (Some op) has_it is held right last (inr tried) = absurd (nothing_tried c.tried (Some op) right tried)
 
     pub tied_image : EndsOrTried reads c image → IsImageFor (core_with reads leaves s b) j d image
     tied_image ends = subst (λ (k : ℕ). ImageWith k s.hand.opened s.monitor.stores_ended b j d image) (sym (many_in reads leaves s))

@@ -46,7 +46,7 @@ module _ {D : Type 0} (reads : D → ℕ → List ℕ) where
   types_image n kept tried c image keeps (inr holds) = tried_types n kept tried c image keeps c.tried keeps.text holds
 
   some_log : (n : ℕ) (o : Option LogState) → IsSome o → IfSome o (λ log. log.header ≡ types_header n) → IsSomeAnd o (λ log. log.header ≡ types_header n)
-  some_log n None is header = absurd is
+  some_log n None is header = absurd cc
   some_log n (Some log) is header = header
 
   kept_records : (kept : List TypeDesc) (n : ℕ) (records : List (List ℕ)) (file : List ℕ) (o : Option LogState) → IsSomeAnd o (λ log. log.header ≡ types_header n)
