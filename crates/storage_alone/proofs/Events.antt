@@ -55,12 +55,12 @@ module _ {D : Type 0} (reads : D → ℕ → List ℕ) (leaves : D → ℕ → L
   channel_step_made s b j c d h e there may stays made =
       let core = core_with reads leaves s b in
       let here : part_of (slice_get (cores s.channels) j) (nat_eq j (length (cores s.channels))) s.monitor ≡ Some (Channel (core_of reads c)) =
-          ap (λ (o : Option CoreChannel). part_of o (nat_eq j (length (cores s.channels))) s.monitor)
-          (slice_get-map (λ (x : ChannelState D). core_of reads x) s.channels j ∙ ap (λ (o : Option (ChannelState D)). option_map (λ (x : ChannelState D). core_of reads x) o) there) in
+      ap (λ (o : Option CoreChannel). part_of o (nat_eq j (length (cores s.channels))) s.monitor)
+      (slice_get-map (λ (x : ChannelState D). core_of reads x) s.channels j ∙ ap (λ (o : Option (ChannelState D)). option_map (λ (x : ChannelState D). core_of reads x) o) there) in
       step_is core 0 j e (Channel (core_of reads c)) (Channel (core_of reads d)) s.hand h here refl may (ap as_channel made)
       ∙ ap (λ (k : Book). Some (record { channels = set (cores s.channels) j (core_of reads d); monitor = s.monitor; hands = h ∷ []; book = k })) stays
       ∙ ap (λ (cs : List CoreChannel). Some (record { channels = cs; monitor = s.monitor; hands = h ∷ []; book = b }))
-        (sym (map-set (λ (x : ChannelState D). core_of reads x) s.channels j d))
+      (sym (map-set (λ (x : ChannelState D). core_of reads x) s.channels j d))
 
   pub monitor_step_made : (s : AloneState D) (b : Book) (m : CoreMonitor) (h : Hand) (e : Event)
       → permits b (held (cores s.channels)) 0 e ≡ true → monitor_step s.monitor s.hand e ≡ Some (m, h)
@@ -69,6 +69,6 @@ module _ {D : Type 0} (reads : D → ℕ → List ℕ) (leaves : D → ℕ → L
       let core = core_with reads leaves s b in
       let n = length (cores s.channels) in
       let here : part_of (slice_get (cores s.channels) n) (nat_eq n n) s.monitor ≡ Some (Monitor s.monitor) =
-          ap (λ (o : Option CoreChannel). part_of o (nat_eq n n) s.monitor) (slice_get_past (cores s.channels) n (omega arith))
-          ∙ ap (λ (t : Bool). part_of None t s.monitor) (eq-eqb n n refl) in
+      ap (λ (o : Option CoreChannel). part_of o (nat_eq n n) s.monitor) (slice_get_past (cores s.channels) n (omega arith))
+      ∙ ap (λ (t : Bool). part_of None t s.monitor) (eq-eqb n n refl) in
       step_is core 0 n e (Monitor s.monitor) (Monitor m) s.hand h here refl may (ap as_monitor made)

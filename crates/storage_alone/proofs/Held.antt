@@ -77,9 +77,11 @@ module _ {D : Type 0} (reads : D → ℕ → List ℕ) (leaves : D → ℕ → L
   placed_there : (s : AloneState D) (b : Book) (j : ℕ) (c : ChannelState D) → IsPlaced s j c
       → (part : List Record) × (place_with c part ≡ place_in (length (map (λ (x : ChannelState D). core_of reads x) s.channels)) b j)
   placed_there s b j c at = let n = length (map (λ (x : ChannelState D). core_of reads x) s.channels) in
-      let part = (place_in n b j).records in
-      (part, ap (λ (i : ℕ). record { number = i; channels = c.channels; records = part }) at.number
-      ∙ ap (λ (k : ℕ). record { number = j; channels = k; records = part }) (at.channels ∙ sym (many_cores s)))
+      let part = (place_in n b j).records in (
+        part,
+        ap (λ (i : ℕ). record { number = i; channels = c.channels; records = part }) at.number
+            ∙ ap (λ (k : ℕ). record { number = j; channels = k; records = part }) (at.channels ∙ sym (many_cores s)),
+      )
 
   -- a pin
   pub upright_pin : (law : StandsOn) (s : AloneState D) (b : Book) (disks : ℕ → DiskTable) (j : ℕ) (c d : ChannelState D) (h : Hand) (x : ℕ) → IsUpright s b disks → IsPlaced s j c
@@ -198,7 +200,7 @@ module _ {D : Type 0} (reads : D → ℕ → List ℕ) (leaves : D → ℕ → L
       let paid : PaysOnly s.monitor s.hand s.monitor h1 = record { format = refl; begun = refl; stores_begun = refl; stores_ended = refl; opened = ap (λ (h : Hand). h.opened) made.1 } in
       let g = got_core s j c at.there in
       let gone : has id (core_of reads d).pins ≡ false = ap (λ (y : CoreChannel). has id y.pins) made.0
-          ∙ removed_gone id (core_of reads c).pins (ap (λ (y : CoreChannel). rises y.pins) (sym g.1) ∙ (serves.stands.good.sound.ordered.channels j).pins) in
+      ∙ removed_gone id (core_of reads c).pins (ap (λ (y : CoreChannel). rises y.pins) (sym g.1) ∙ (serves.stands.good.sound.ordered.channels j).pins) in
       record {
         serves = serves_on reads leaves s s1 b disks kept serves up1.good up1.stand (goes_on s j c d s.monitor h1 at.there left paid) steady;
         ended = refl;

@@ -20,7 +20,7 @@ same_bool false false to from = refl
 pub held_at_home : (c : Core) (x : ℕ) → IsGood c → has x (held c.channels) ≡ has x (channel_of c x).pins
 held_at_home c x good = same_bool (has x (held c.channels)) (has x (channel_of c x).pins)
     (λ h. let t = held_on c.channels x h in
-        subst (λ (k : ℕ). has x (channel_at c.channels k).pins ≡ true) (sym (good.sound.content.pins_home t.0 x t.1 t.2)) t.2)
+    subst (λ (k : ℕ). has x (channel_at c.channels k).pins ≡ true) (sym (good.sound.content.pins_home t.0 x t.1 t.2)) t.2)
     (λ h. pin_is_held c.channels (home (length c.channels) x) x h)
 
 -- ---- the channel of an id changes its pins

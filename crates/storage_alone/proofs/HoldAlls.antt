@@ -23,7 +23,7 @@ same_may g hs hs' x same may = ⊎_elim
     (λ h. or_left (has x hs') (any_edge g (1 ∷ hs') x || nat_eq x 1) (same x ∙ h))
     (λ t. or_right (has x hs') (any_edge g (1 ∷ hs') x || nat_eq x 1) (⊎_elim
     (λ e. let u = some_edge g (1 ∷ hs) x e in
-        or_left (any_edge g (1 ∷ hs') x) (nat_eq x 1) (any_of g (1 ∷ hs') u.0 x (ap (λ (b : Bool). nat_eq u.0 1 || b) (same u.0) ∙ u.1) u.2))
+    or_left (any_edge g (1 ∷ hs') x) (nat_eq x 1) (any_of g (1 ∷ hs') u.0 x (ap (λ (b : Bool). nat_eq u.0 1 || b) (same u.0) ∙ u.1) u.2))
     (λ r. or_right (any_edge g (1 ∷ hs') x) (nat_eq x 1) r)
     (or_cases (any_edge g (1 ∷ hs) x) (nat_eq x 1) t)))
     (or_cases (has x hs) (any_edge g (1 ∷ hs) x || nat_eq x 1) may)

@@ -27,7 +27,7 @@ module _ {D : Type 0} where
         (subst (λ (k : ℕ). IsSteadyChannel (length s.channels) i k x) (sym pays.stores_ended)
         (⊎_elim
         (λ t. subst (λ (k : ℕ). IsSteadyChannel (length s.channels) k s.monitor.stores_ended x) (sym t.0)
-            (subst (λ (z : ChannelState D). IsSteadyChannel (length s.channels) j s.monitor.stores_ended z) (sym t.1) is))
+        (subst (λ (z : ChannelState D). IsSteadyChannel (length s.channels) j s.monitor.stores_ended z) (sym t.1) is))
         (λ t. steady.channels i x t.1)
         (set_at s.channels j i d c x there at)));
     flags = ap length pays.begun ∙ (steady.flags ∙ sym long);
@@ -46,8 +46,8 @@ module _ {D : Type 0} where
     many = ap length is ∙ length-set s.channels j d;
     counts = λ i x y was now. ⊎_elim
         (λ e. let same : x ≡ c = some_one (sym was ∙ (ap (slice_get s.channels) e.0 ∙ there)) in
-            subst (λ (z : ChannelState D). faults x.files.disk ≤ faults z.files.disk) (sym e.1)
-            (subst (λ (z : ChannelState D). faults z.files.disk ≤ faults d.files.disk) (sym same) le))
+        subst (λ (z : ChannelState D). faults x.files.disk ≤ faults z.files.disk) (sym e.1)
+        (subst (λ (z : ChannelState D). faults z.files.disk ≤ faults d.files.disk) (sym same) le))
         (λ e. let same : x ≡ y = some_one (sym was ∙ e.1) in subst (λ (z : ChannelState D). faults x.files.disk ≤ faults z.files.disk) same (omega arith))
         (set_at s.channels j i d c y there (ap (λ (l : List (ChannelState D)). slice_get l i) (sym is) ∙ now));
   }
@@ -56,7 +56,7 @@ module _ {D : Type 0} where
       → faults d.files.disk ≡ faults c.files.disk → IsCalm faults s t
   calm_still faults s t j c d there is eq i x y was now = ⊎_elim
       (λ e. let same : x ≡ c = some_one (sym was ∙ (ap (slice_get s.channels) e.0 ∙ there)) in
-          ap (λ (z : ChannelState D). faults z.files.disk) e.1 ∙ (eq ∙ ap (λ (z : ChannelState D). faults z.files.disk) (sym same)))
+      ap (λ (z : ChannelState D). faults z.files.disk) e.1 ∙ (eq ∙ ap (λ (z : ChannelState D). faults z.files.disk) (sym same)))
       (λ e. ap (λ (z : ChannelState D). faults z.files.disk) (some_one (sym e.1 ∙ was)))
       (set_at s.channels j i d c y there (ap (λ (l : List (ChannelState D)). slice_get l i) (sym is) ∙ now))
 

@@ -56,7 +56,7 @@ module _ {D : Type 0} (reads : D → ℕ → List ℕ) (leaves : D → ℕ → L
     tried_here (Some (TriedPart number next_id)) None is last alike right has = absurd right
     tried_here (Some (TriedPart number next_id)) (Some op) is last alike right has =
         let part_has : HasPart c.channels c.number (last_part c) (log_next_id c) part next_id (disk_held reads c) image =
-            subst (λ (p : Option (List Record)). IsSomeAnd p (λ q. HasPart c.channels c.number (last_part c) (log_next_id c) q next_id (disk_held reads c) image)) right.1 has in
+        subst (λ (p : Option (List Record)). IsSomeAnd p (λ q. HasPart c.channels c.number (last_part c) (log_next_id c) q next_id (disk_held reads c) image)) right.1 has in
         let there = image_tried reads c d next_id (next_before b) part image alike (low alike) part_has in
         inr (op, is, subst (λ (k : ℕ). HasPart n j m (next_before b) part k d image) right.0 (part_here (last_part c) next_id last there))
     tried_here (Some (TriedType text)) o is last alike right has = absurd has
@@ -93,4 +93,4 @@ module _ {D : Type 0} (reads : D → ℕ → List ℕ) (leaves : D → ℕ → L
       state_next = sym (
           ap (λ (s : State). if s.last == m then s.next_id else s.next_id_before) state_is
           ∙ ap (λ (t : Bool). if t then log_next_id c else c.files.transactions.inventory.state.next_id_before) (eq-eqb (last_part c) m last)
-      )
+          )

@@ -63,7 +63,7 @@ module _ {D : Type 0} (tells : Bool) (reads : D → ℕ → List ℕ) (leaves : 
     tied_here : (j : ℕ) (c : ChannelState D) → slice_get s.channels j ≡ Some c → IsTied reads s b (disks j) j c
     tied_here j c there = let w = steady.channels j c there in
         let alike = held_alike reads leaves (length s.channels) j s.monitor.stores_ended (next_before b) (disks j) c
-            ((all j c there).sound.on_disk tell w.unfailed) w.last_is (ends_at j c there) in record {
+        ((all j c there).sound.on_disk tell w.unfailed) w.last_is (ends_at j c there) in record {
           number = w.number;
           channels = w.channels;
           last = w.last_is ∙ ap (λ (t : Bool). cond t (s.monitor.stores_ended + 1) s.monitor.stores_ended) (sym (none_written j));
