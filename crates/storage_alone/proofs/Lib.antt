@@ -12,3 +12,4 @@ pub mod HoldAlls
 pub mod Opened
 pub mod PartIds
 pub mod LookEnds
+pub mod StoreSteps

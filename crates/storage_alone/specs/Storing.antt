@@ -1,7 +1,10 @@
 -- A storage in which a store is made.
 use Rattle.std.specs.Prelude.{◌≡◌, ℕ, ◌+◌, ◌<◌, ◌≤◌, ◌^◌, Bool, true, false, cond, nat_lt, List, length, slice_get, Option, Some, None}
-use Rattle.std.specs.List.{filter}
-use Rattle.graph_model.specs.Ids.{has}
+use Rattle.std.specs.List.{AllByRecursion, filter}
+use Rattle.graph_model.specs.Graph.{ids}
+use Rattle.graph_model.specs.Stores.{total_size}
+use Rattle.channel.specs.Parts.{IsStorable}
+use Rattle.graph_model.specs.Ids.{has, rises}
 use Rattle.graph_model.specs.declared.entity.Record.{Record}
 use Rattle.graph_model.specs.declared.entity.StoreOp.{StoreOp}
 use Rattle.core_steps.specs.Core.{is_home}
@@ -47,3 +50,9 @@ pub record IsStoring {D : Type 0} (op : StoreOp) (k : ℕ) (s : AloneState D) : 
   pub most : s.monitor.stores_ended ≤ 2 ^ 63
   pub credit : s.hand.credit ≡ length op.records
   pub pending : s.monitor.pending ≡ length op.records
+
+-- records that may be parted: by rising id, each with a spelling, of at most 16 MiB together
+pub record MayBePart (records : List Record) : Type 0 where
+  pub ordered : rises (ids records) ≡ true
+  pub storable : AllByRecursion IsStorable records
+  pub most : total_size records ≤ 16777216

@@ -3,6 +3,7 @@
 
 mod holding;
 mod looking;
+mod readying;
 mod storage;
 
 pub use storage::StorageAlone;
