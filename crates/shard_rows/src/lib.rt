@@ -1,0 +1,20 @@
+//! Units in memory as shards: what workers and the session do on them by turns, the history that the turns leave, and tests of it.
+#![tactic(auto)]
+
+mod channel_events;
+mod history;
+mod leaving;
+mod monitor_events;
+mod session;
+mod threads;
+mod units;
+mod working;
+
+#[cfg(test)]
+mod calls;
+
+pub use history::{Entry, Log, Order, check_history};
+pub use session::{serve, serve_once};
+pub use threads::run_all;
+pub use units::{MemoryUnit, first_units, memory_shards};
+pub use working::{act, work};
