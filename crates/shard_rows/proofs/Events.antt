@@ -1,26 +1,24 @@
--- What events make of a channel without an id, and what the rest of the core says of events.
-use Rattle.std.proofs.Common.{◌≡◌, ◌≢◌, ℕ, ◌+◌, ◌-◌, ◌≤◌, ◌<◌, Bool, true, false, cond, ◌&&◌, List, [], ◌∷◌, ◌++◌, length, Option, Some, None, refl, sym, ap, ◌∙◌, subst, arith}
-use Rattle.std.specs.Prelude.{nat_eq, nat_le, nat_lt, is_some, not}
-use Rattle.std.specs.List.{filter}
-use Rattle.std.proofs.lemmas.Bool.{eqb-true, eq-eqb, and_parts}
-use Rattle.graph_model.specs.Graph.{lists}
-use Rattle.graph_model.specs.Ids.{add, has}
-use Rattle.graph_model.specs.Stores.{next_after}
+-- What the rest of the core says of events, where stores list no id.
+use Rattle.std.proofs.Common.{◌≡◌, ◌≢◌, ℕ, true, List, [], ◌∷◌, ◌++◌, Option, Some, None, refl, sym, ap, ◌∙◌, subst}
+use Rattle.std.specs.Prelude.{◌&&◌, nat_eq, nat_le}
+use Rattle.std.specs.List.{filter, list_all}
+use Rattle.graph_model.specs.Graph.{ids}
+use Rattle.graph_model.specs.Ids.{rises}
+use Rattle.graph_model.specs.Limits.{id_limit, store_limit}
+use Rattle.graph_model.specs.Stores.{is_good_record, next_after, total_size}
 use Rattle.graph_model.specs.declared.entity.Record.{Record}
 use Rattle.graph_model.specs.declared.entity.StoreOp.{StoreOp}
 use Rattle.core_steps.specs.declared.state.Book.{Book}
-use Rattle.core_steps.specs.declared.state.OpenStore.{OpenStore}
-use Rattle.core_steps.specs.declared.state.Phase.{Phase}
-use Rattle.core_steps.specs.declared.state.Phase.TheVariants.{Idle, Marking, Sweeping}
+use Rattle.core_steps.specs.declared.state.CoreMonitor.{CoreMonitor}
+use Rattle.core_steps.specs.declared.event.Event.{Event}
+use Rattle.core_steps.specs.declared.event.Event.TheVariants.{Reserve, Return, BeginCycle, BeginMark, MarkSome, Deliver, ReportBegun, CloseCycle, SweepSome, ReportSwept, StoreBegin, StorePart, StoreEnd, Confirm, Pin, Unpin, Tidy}
 use Rattle.core_steps.specs.declared.unit.EventKind.TheVariants as kind
-use Rattle.core_steps.specs.Core.{CoreChannel, CoreMonitor, Hand, is_home, is_marking, next_before, records_of}
-use Rattle.core_steps.specs.Events.{Event, Reserve, Return, BeginCycle, BeginMark, MarkSome, Deliver, ReportBegun, CloseCycle, SweepSome, ReportSwept, StoreBegin, StorePart, StoreEnd, Confirm, Pin, Unpin, Tidy, is_worker, kind_of}
-use Rattle.core_steps.specs.Rows as core
-use Rattle.core_steps.specs.Rows.{Part, Place, begin_mark, channel_step, given, monitor_step, part_step, roots, sweep_some}
+use Rattle.core_steps.specs.Core.{Hand, graph, is_home, records_of}
+use Rattle.core_steps.specs.Events.{is_worker, kind_of}
+use Rattle.core_steps.specs.Rows.{monitor_step}
 use Rattle.core_steps.specs.Steps.{book_after, end_in, permits, place_in}
 use Rattle.shards.specs.Backed.{next_id_of, next_id_then}
-use Rattle.shards.specs.Due.{IsDue}
-use Rattle.shard_rows.specs.Units.{IsPlain, IsPlainOp, IsQuiet, is_free, is_next, is_sweeping, may_sweep}
+use Rattle.shard_rows.specs.Units.{IsPlain, IsPlainOp, is_free}
 
 -- WHAT THE REST OF THE CORE SAYS
 
@@ -190,3 +188,8 @@ records_none (Some op) p = p op refl
 -- in a plain store no shard has a record
 pub place_plain : (n k : ℕ) (b : Book) → IsPlain b → (place_in n b k).records ≡ []
 place_plain n k b p = ap (λ (rs : List Record). filter (λ (r : Record). is_home n k r.id) rs) (records_none b.opened (λ op is. (p.1 op is).0))
+
+-- a plain store may be made where stores are plain
+pub plain_may : (b : Book) (xs : List ℕ) (a : ℕ) (op : StoreOp) → a ≡ 0 → IsPlain b → IsPlainOp op → permits b xs a (StoreBegin op) ≡ true
+plain_may b xs a op zeroth p plain = λ i. nat_eq (zeroth i) 0 && (nat_le (p.0 i) (plain.1 i) && (nat_le (plain.1 i) id_limit && (rises (ids (plain.0 i))
+    && (nat_le (total_size (plain.0 i)) store_limit && list_all (is_good_record (graph b) xs op) (plain.0 i)))))

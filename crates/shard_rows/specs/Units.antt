@@ -1,19 +1,22 @@
 -- What a unit in memory tells, the first units, and what turns on them keep.
-use Rattle.std.specs.Prelude.{◌≡◌, ◌⊎◌, ℕ, ◌+◌, Bool, true, false, ◌&&◌, nat_eq, Some, None, List, [], ◌∷◌}
+use Rattle.std.specs.Prelude.{◌≡◌, ℕ, ◌+◌, Bool, true, false, nat_eq, Some, None, List, [], ◌∷◌}
 use Rattle.graph_model.specs.declared.entity.StoreOp.{StoreOp}
 use Rattle.core_steps.specs.declared.unit.Ending.TheVariants.{Sound}
 use Rattle.core_steps.specs.declared.state.Book.{Book}
 use Rattle.core_steps.specs.declared.state.CoreChannel.{CoreChannel}
 use Rattle.core_steps.specs.declared.state.Phase.{Phase}
-use Rattle.core_steps.specs.declared.state.Phase.TheVariants.{Idle, Marking, Sweeping}
+use Rattle.core_steps.specs.declared.state.Phase.TheVariants.{Idle, Marking}
 use Rattle.core_steps.specs.declared.event.Event.{Event}
 use Rattle.core_steps.specs.declared.event.Event.TheVariants.{Pin, StoreBegin}
 use Rattle.core_steps.specs.Core.{Hand, next_before}
 use Rattle.core_steps.specs.Rows as core
 use Rattle.core_steps.specs.Rows.{Part}
-use Rattle.core_steps.specs.Steps.{start_channel, start_monitor}
+use Rattle.core_steps.specs.Steps.{start_monitor}
 use Rattle.core_steps.specs.Told.{Told}
 use Rattle.shards.specs.Known.{Known}
+use Rattle.shard_rows.specs.declared.units.EmptyChannel.{EmptyChannel}
+use Rattle.shard_rows.specs.declared.units.Stage.{Stage}
+use Rattle.shard_rows.specs.declared.units.Stage.TheVariants as stage
 use Rattle.shard_rows.specs.declared.units.MemoryUnit.{MemoryUnit}
 use Rattle.shard_rows.specs.declared.units.MemoryUnit.TheVariants.{Channel, Monitor}
 
@@ -32,14 +35,22 @@ telling p n = record {
   tried = None;
 }
 
+abbrev pub phase_of : Stage → Phase
+phase_of (stage.Idle b) = Idle b
+phase_of (stage.Marking b) = Marking b
+
+-- the channel of the core: it has no id
+abbrev pub core_of : EmptyChannel → CoreChannel
+core_of c = record { table = []; marked = []; grey = []; pins = []; phase = phase_of c.stage; last_part = c.last_part; confirmed = c.confirmed }
+
 -- the next id of a channel's log is always 1024
 abbrev pub told_of : MemoryUnit → Told
-told_of (Channel c log) = telling (core.Channel c) 1024
+told_of (Channel c log) = telling (core.Channel (core_of c)) 1024
 told_of (Monitor m log) = telling (core.Monitor m) 0
 
 -- one of two channels without an id, at the start
 abbrev pub first_channel : MemoryUnit
-first_channel = Channel (start_channel [] 0 2 0) tt
+first_channel = Channel (record { stage = stage.Idle 0; last_part = 0; confirmed = 0 }) tt
 
 -- the two, and the monitor, at the start in format 1
 abbrev pub first_units : List MemoryUnit
@@ -72,22 +83,10 @@ is_free (Pin x) = false
 is_free _ = true
 
 -- the channel is to begin marking in the cycle that the hand saw
-abbrev pub is_next : Phase → Hand → Bool
-is_next (Idle b) h = nat_eq h.cycle_seen (b + 1)
-is_next (Marking b) h = false
-is_next (Sweeping b left) h = false
+abbrev pub is_next : Stage → Hand → Bool
+is_next (stage.Idle b) h = nat_eq h.cycle_seen (b + 1)
+is_next (stage.Marking b) h = false
 
--- the hand saw the cycle closed in which the channel marks or sweeps
-abbrev pub may_sweep : Phase → Hand → Bool
-may_sweep (Idle b) h = false
-may_sweep (Marking b) h = h.closed_seen && nat_eq h.cycle_seen b
-may_sweep (Sweeping b left) h = h.closed_seen && nat_eq h.cycle_seen b
-
-abbrev pub is_sweeping : Phase → Bool
-is_sweeping (Idle b) = false
-is_sweeping (Marking b) = false
-is_sweeping (Sweeping b left) = true
-
--- no id is grey or in transit, and the channel is neither to begin marking nor to sweep
-abbrev pub IsQuiet : CoreChannel → Hand → Type 0
-IsQuiet c h = (c.grey ≡ []) × (h.transit ≡ []) × (is_next c.phase h ≡ false) × (may_sweep c.phase h ≡ false)
+abbrev pub is_idle : Stage → Bool
+is_idle (stage.Idle b) = true
+is_idle (stage.Marking b) = false

@@ -25,6 +25,7 @@ fn take(
     requires shard { shard ≤ shards.now.channels }
     ensures table { result.turn.table ≡ shards.now.table }
     ensures known { result.turn.known ≡ took pass.known shard result.unit }
+    ensures shard { result.turn.shard ≡ shard }
     ensures was { result.turn.was ≡ result.unit }
     ensures hand { result.hand ≡ pass.known.own.hand }
 {
@@ -88,7 +89,7 @@ fn turns_of_two(
     let session = find_taken(rt, shards, session, 2);
     let channel = take(rt, shards, session, 0);
     let session = give_back(shards, channel);
-    let worker = act(rt, shards, order, monitor);
+    let worker = act(shards, order, monitor);
     (session, worker)
 }
 
@@ -134,7 +135,7 @@ fn each_call_answers_as_it_must(rt: HostRuntime) {
     let (session, is_stopped) = shards.stopped(session);
     assert!(rt; is_stopped);
     let held = shards.enter(&rt, session, 2);
-    let session = serve_once(&rt, &shards, &order, held);
+    let session = serve_once(&shards, &order, held);
     let session = shards.join(session, worker);
     let (units, hand) = shards.close(session);
     assert_eq!(rt; (units.len(), hand.open_number()), (3, Some(1)));

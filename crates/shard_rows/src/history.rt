@@ -8,7 +8,6 @@ use core_steps::{CoreState, Event, Step};
 use graph_model::{Graph, NoMemory, Records};
 use std::alloc::Global;
 use std::marker::Model;
-use std::process::Abort;
 use std::sync::atomic::{AtomicU64, Ordering};
 
 /// A step, and its number among the steps on all units.
@@ -18,10 +17,11 @@ pub struct Entry {
     pub step: Step,
 }
 
-/// The steps that were made on a unit, in order. No contract speaks of them.
+/// The steps that were made on a unit, in order, and whether one is missing for want of memory. No contract speaks of them.
 #[derive(Drop)]
 pub struct Log {
-    pub entries: Vec<Entry>,
+    entries: Vec<Entry>,
+    is_cut: bool,
 }
 
 impl Model for Log {
@@ -62,6 +62,7 @@ impl Log {
     pub fn new(alloc: Global) -> Log {
         Log {
             entries: Vec::new(alloc),
+            is_cut: false,
         }
     }
 
@@ -71,16 +72,16 @@ impl Log {
     }
 
     /// Writes a step down, which is made in the turn that is held.
-    pub fn note(&mut self, rt: &impl Abort, order: &Order, actor: u32, shard: u32, event: Event) {
+    pub fn note(&mut self, order: &Order, actor: u32, shard: u32, event: Event) {
         let number = order.next.fetch_add(1, Ordering::SeqCst);
         let step = Step {
             actor,
             shard,
             event,
         };
-        self.entries
-            .push(Entry { number, step })
-            .expect(rt, "memory");
+        if self.entries.push(Entry { number, step }).is_err() {
+            self.is_cut = true;
+        }
     }
 }
 
@@ -92,6 +93,9 @@ fn steps_of(alloc: Global, units: Vec<MemoryUnit>) -> Result<Vec<Step>, NoMemory
             MemoryUnit::Channel(_channel, log) => log,
             MemoryUnit::Monitor(_monitor, log) => log,
         };
+        if log.is_cut {
+            return Err(NoMemory);
+        }
         for entry in log.entries {
             entries.push(entry)?;
         }

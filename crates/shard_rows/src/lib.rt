@@ -1,6 +1,8 @@
 //! Units in memory as shards: what workers and the session do on them by turns, the history that the turns leave, and tests of it.
 #![tactic(auto)]
 
+#[cfg(test)]
+mod calls;
 mod channel_events;
 mod history;
 mod leaving;
@@ -10,11 +12,8 @@ mod threads;
 mod units;
 mod working;
 
-#[cfg(test)]
-mod calls;
-
 pub use history::{Entry, Log, Order, check_history};
 pub use session::{serve, serve_once};
 pub use threads::run_all;
-pub use units::{MemoryUnit, first_units, memory_shards};
+pub use units::{EmptyChannel, MemoryUnit, Stage, first_units, memory_shards};
 pub use working::{act, work};

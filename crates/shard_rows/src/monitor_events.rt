@@ -8,17 +8,21 @@ ghost use Rattle.shard_rows.specs.Units.{is_free};
 use core_hands::Hand;
 use core_steps::Event;
 use mark_monitor::Monitor;
-use std::process::Abort;
+
+/// No credit is taken while so much is out.
+const MOST_PENDING: u64 = 1000;
+
+/// The last cycle.
+const LAST_CYCLE: u64 = 1_000_000_000;
 
 /// One credit more where the hand has none, else all of it goes back.
-fn trade(rt: &impl Abort, monitor: &mut Monitor, hand: &mut Hand) -> Event
+fn trade(monitor: &mut Monitor, hand: &mut Hand) -> Event
     ensures step { monitor_step monitor.old hand.old result ≡ Some (monitor.new, hand.new) }
     ensures worker { is_worker result ≡ true }
     ensures early { IsEarly (OfMonitor monitor.old) result }
 {
     let credit = hand.credit();
-    if credit == 0 {
-        assert!(rt; monitor.pending() < 1000, "little credit is out");
+    if credit == 0 && monitor.pending() < MOST_PENDING {
         monitor.reserve(hand, 1);
         return Event::Reserve(1);
     }
@@ -27,7 +31,7 @@ fn trade(rt: &impl Abort, monitor: &mut Monitor, hand: &mut Hand) -> Event
 }
 
 /// A cycle is closed where it may be, or the next one begun.
-fn turn_cycle(rt: &impl Abort, monitor: &mut Monitor, hand: &mut Hand) -> Event
+fn turn_cycle(monitor: &mut Monitor, hand: &mut Hand) -> Event
     ensures step { monitor_step monitor.old hand.old result ≡ Some (monitor.new, hand.new) }
     ensures worker { is_worker result ≡ true }
     ensures early { IsEarly (OfMonitor monitor.old) result }
@@ -35,37 +39,45 @@ fn turn_cycle(rt: &impl Abort, monitor: &mut Monitor, hand: &mut Hand) -> Event
     if !monitor.is_closed() {
         return match monitor.close_cycle(hand) {
             Ok(()) => Event::CloseCycle,
-            Err(_fault) => trade(rt, monitor, hand),
+            Err(_fault) => trade(monitor, hand),
         };
     }
-    assert!(rt; monitor.cycle() < 1_000_000_000, "few cycles began");
+    if monitor.cycle() >= LAST_CYCLE {
+        return trade(monitor, hand);
+    }
     match monitor.begin_cycle(hand) {
         Ok(()) => Event::BeginCycle,
-        Err(_fault) => trade(rt, monitor, hand),
+        Err(_fault) => trade(monitor, hand),
     }
 }
 
 /// What a worker does on the monitor: it reports its channels, closes or begins a cycle, or trades credit.
-pub fn monitor_event(rt: &impl Abort, monitor: &mut Monitor, hand: &mut Hand) -> Event
+pub fn monitor_event(monitor: &mut Monitor, hand: &mut Hand) -> Event
     ensures step { monitor_step monitor.old hand.old result ≡ Some (monitor.new, hand.new) }
     ensures worker { is_worker result ≡ true }
     ensures early { IsEarly (OfMonitor monitor.old) result }
 {
-    for channel in 0..2 {
-        if hand.has_begun(channel) {
-            monitor.report_begun(hand, channel);
-            return Event::ReportBegun(channel);
-        }
-        if hand.has_swept(channel) {
-            monitor.report_swept(hand, channel);
-            return Event::ReportSwept(channel);
-        }
+    if hand.has_begun(0) {
+        monitor.report_begun(hand, 0);
+        return Event::ReportBegun(0);
     }
-    turn_cycle(rt, monitor, hand)
+    if hand.has_begun(1) {
+        monitor.report_begun(hand, 1);
+        return Event::ReportBegun(1);
+    }
+    if hand.has_swept(0) {
+        monitor.report_swept(hand, 0);
+        return Event::ReportSwept(0);
+    }
+    if hand.has_swept(1) {
+        monitor.report_swept(hand, 1);
+        return Event::ReportSwept(1);
+    }
+    turn_cycle(monitor, hand)
 }
 
 /// What the session does on the monitor where it begins no store: it ends the open one where that is whole, or trades credit.
-pub fn session_event(rt: &impl Abort, monitor: &mut Monitor, hand: &mut Hand) -> Event
+pub fn session_event(monitor: &mut Monitor, hand: &mut Hand) -> Event
     ensures step { monitor_step monitor.old hand.old result ≡ Some (monitor.new, hand.new) }
     ensures free { is_free result ≡ true }
 {
@@ -73,5 +85,5 @@ pub fn session_event(rt: &impl Abort, monitor: &mut Monitor, hand: &mut Hand) ->
         monitor.store_end(hand);
         return Event::StoreEnd;
     }
-    trade(rt, monitor, hand)
+    trade(monitor, hand)
 }

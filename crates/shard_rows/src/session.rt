@@ -1,5 +1,5 @@
 // What the session does: stores that list no id, one after another.
-ghost use Rattle.std.specs.Prelude.{◌≡◌, true, IfOk};
+ghost use Rattle.std.specs.Prelude.{◌≡◌, ◌≤◌, ◌<◌, ◌^◌, true};
 ghost use Rattle.shard_rows.specs.declared.units.MemoryUnit.TheVariants.{Channel as AsChannel, Monitor as AsMonitor};
 ghost use Rattle.shard_rows.specs.Units.{IsAlike, IsPlain, IsPlainOp};
 
@@ -7,15 +7,17 @@ use crate::channel_events::session_part;
 use crate::history::{Log, Order};
 use crate::leaving::{kind_of, leave_as, leave_store, rest};
 use crate::monitor_events::session_event;
-use crate::units::MemoryUnit;
+use crate::units::{EmptyChannel, MemoryUnit};
 use core_hands::Hand;
-use core_steps::{CoreChannel, Event};
+use core_steps::Event;
 use graph_model::{Records, StoreOp};
 use mark_monitor::Monitor;
 use shards::{Held, Pass, Shards, Turn};
 use std::alloc::Global;
-use std::process::Abort;
 use std::sync::Wait;
+
+/// No store is begun after that of this number.
+const LAST_STORE: u64 = 1_000_000_000;
 
 /// A store that lists no id.
 fn plain_store(alloc: Global) -> StoreOp
@@ -29,7 +31,37 @@ fn plain_store(alloc: Global) -> StoreOp
 
 /// Begins a store.
 fn begin_store(
-    rt: &impl Abort,
+    shards: &Shards<MemoryUnit>,
+    order: &Order,
+    turn: Turn<MemoryUnit>,
+    mut hand: Hand,
+    mut monitor: Monitor,
+    mut log: Log,
+) -> Pass<MemoryUnit>
+    requires table { turn.table ≡ shards.now.table }
+    requires was { turn.was ≡ AsMonitor monitor log }
+    requires hand { turn.known.own.hand ≡ hand }
+    requires actor { turn.known.own.actor ≡ 0 }
+    requires plain { IsPlain turn.known.desk.book }
+    requires none_open { monitor.stores_begun ≡ monitor.stores_ended }
+    requires few { monitor.stores_begun ≤ 2 ^ 63 }
+    ensures table { result.table ≡ shards.now.table }
+    ensures alike { IsAlike turn.known result.known }
+{
+    monitor.store_begin(&mut hand);
+    let alloc = log.allocator();
+    log.note(
+        order,
+        0,
+        turn.shard(),
+        Event::StoreBegin(plain_store(alloc)),
+    );
+    let unit = MemoryUnit::Monitor(monitor, log);
+    leave_store(shards, turn, unit, hand, &plain_store(alloc))
+}
+
+/// The session's turn on the monitor: it begins a store where none is open.
+fn serve_on_monitor(
     shards: &Shards<MemoryUnit>,
     order: &Order,
     turn: Turn<MemoryUnit>,
@@ -46,49 +78,22 @@ fn begin_store(
     ensures alike { IsAlike turn.known result.known }
 {
     let none_open = monitor.stores_begun() == monitor.stores_ended();
-    assert!(rt; none_open && monitor.stores_begun() < 1_000_000_000, "few stores began");
-    monitor.store_begin(&mut hand);
-    let alloc = log.allocator();
-    log.note(rt, order, 0, turn.shard(), Event::StoreBegin(plain_store(alloc)));
-    let unit = MemoryUnit::Monitor(monitor, log);
-    leave_store(shards, turn, unit, hand, &plain_store(alloc))
-}
-
-/// The session's turn on the monitor: it begins a store where none is open.
-fn serve_on_monitor(
-    rt: &impl Abort,
-    shards: &Shards<MemoryUnit>,
-    order: &Order,
-    turn: Turn<MemoryUnit>,
-    mut hand: Hand,
-    mut monitor: Monitor,
-    mut log: Log,
-) -> Pass<MemoryUnit>
-    requires table { turn.table ≡ shards.now.table }
-    requires was { turn.was ≡ AsMonitor monitor log }
-    requires hand { turn.known.own.hand ≡ hand }
-    requires actor { turn.known.own.actor ≡ 0 }
-    requires plain { IsPlain turn.known.desk.book }
-    ensures table { result.table ≡ shards.now.table }
-    ensures alike { IsAlike turn.known result.known }
-{
-    if hand.open_number().is_none() && hand.credit() == 0 {
-        return begin_store(rt, shards, order, turn, hand, monitor, log);
+    if none_open && monitor.stores_begun() < LAST_STORE {
+        return begin_store(shards, order, turn, hand, monitor, log);
     }
-    let event = session_event(rt, &mut monitor, &mut hand);
+    let event = session_event(&mut monitor, &mut hand);
     let kind = kind_of(&event);
-    log.note(rt, order, 0, turn.shard(), event);
+    log.note(order, 0, turn.shard(), event);
     leave_as(shards, turn, MemoryUnit::Monitor(monitor, log), hand, kind)
 }
 
 /// The session's turn on a channel.
 fn serve_on_channel(
-    rt: &impl Abort,
     shards: &Shards<MemoryUnit>,
     order: &Order,
     turn: Turn<MemoryUnit>,
     mut hand: Hand,
-    mut channel: CoreChannel,
+    mut channel: EmptyChannel,
     mut log: Log,
 ) -> Pass<MemoryUnit>
     requires table { turn.table ≡ shards.now.table }
@@ -96,15 +101,15 @@ fn serve_on_channel(
     requires hand { turn.known.own.hand ≡ hand }
     requires actor { turn.known.own.actor ≡ 0 }
     requires plain { IsPlain turn.known.desk.book }
+    requires shard { turn.shard < 64 }
     ensures table { result.table ≡ shards.now.table }
     ensures alike { IsAlike turn.known result.known }
 {
     let shard = turn.shard();
-    assert!(rt; shard < 2, "a channel");
     match session_part(&mut channel, &mut hand, shard) {
         Some(event) => {
             let kind = kind_of(&event);
-            log.note(rt, order, 0, shard, event);
+            log.note(order, 0, shard, event);
             leave_as(shards, turn, MemoryUnit::Channel(channel, log), hand, kind)
         }
         None => {
@@ -116,7 +121,6 @@ fn serve_on_channel(
 
 /// One turn of the session.
 pub fn serve_once(
-    rt: &impl Abort,
     shards: &Shards<MemoryUnit>,
     order: &Order,
     held: Held<MemoryUnit>,
@@ -126,22 +130,23 @@ pub fn serve_once(
     requires hand { held.turn.known.own.hand ≡ held.hand }
     requires actor { held.turn.known.own.actor ≡ 0 }
     requires plain { IsPlain held.turn.known.desk.book }
+    requires shard { held.turn.shard < 64 }
     ensures table { result.table ≡ shards.now.table }
     ensures alike { IsAlike held.turn.known result.known }
 {
     let Held { unit, hand, turn } = held;
     match unit {
         MemoryUnit::Monitor(monitor, log) => {
-            serve_on_monitor(rt, shards, order, turn, hand, monitor, log)
+            serve_on_monitor(shards, order, turn, hand, monitor, log)
         }
         MemoryUnit::Channel(channel, log) => {
-            serve_on_channel(rt, shards, order, turn, hand, channel, log)
+            serve_on_channel(shards, order, turn, hand, channel, log)
         }
     }
 }
 
 /// So many turns of the session, on the monitor and then on one channel after the other.
-pub fn serve<R: Abort + Wait>(
+pub fn serve<R: Wait>(
     rt: &R,
     shards: &Shards<MemoryUnit>,
     order: &Order,
@@ -159,7 +164,7 @@ pub fn serve<R: Abort + Wait>(
     let mut pass = pass;
     for turn in 0..count {
         let held = shards.enter(rt, pass, 2 - turn % 3);
-        pass = serve_once(rt, shards, order, held);
+        pass = serve_once(shards, order, held);
     }
     pass
 }

@@ -9,12 +9,11 @@ use crate::session::serve;
 use crate::units::MemoryUnit;
 use crate::working::work;
 use shards::{Pass, Shards};
-use std::process::Abort;
 use std::sync::Wait;
 use std::thread::{Threads, join};
 
 /// Two workers work beside one another, and the second's pass joins the first's.
-fn work_both<R: Abort + Wait + Threads + Sync>(
+fn work_both<R: Wait + Threads + Sync>(
     rt: &R,
     shards: &Shards<MemoryUnit>,
     order: &Order,
@@ -44,7 +43,7 @@ fn work_both<R: Abort + Wait + Threads + Sync>(
 }
 
 /// The session serves for so many turns while two workers work for so many each. All passes join the session's.
-pub fn run_all<R: Abort + Wait + Threads + Sync>(
+pub fn run_all<R: Wait + Threads + Sync>(
     rt: &R,
     shards: &Shards<MemoryUnit>,
     order: &Order,

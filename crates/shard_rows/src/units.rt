@@ -5,16 +5,31 @@ ghost use Rattle.shard_rows.specs.Units.{first_channel, first_units, told_of};
 
 use crate::history::Log;
 use core_hands::Hand;
-use core_steps::{CoreChannel, CoreUnit, Phase};
-use graph_model::{Ids, NoMemory, Records};
+use core_steps::CoreUnit;
+use graph_model::NoMemory;
 use mark_monitor::Monitor;
 use shards::{BackedUnit, MakeFault, Pass, Shards, make};
 use std::alloc::Global;
 
+/// Where a channel without an id stands: done with that cycle, or marking in it. It sweeps at once.
+#[derive(Clone, Copy, Drop)]
+pub enum Stage {
+    Idle(u64),
+    Marking(u64),
+}
+
+/// A channel of the core that has no id: its stage, the number of the last store that has its part here, and the last that was confirmed.
+#[derive(Clone, Copy, Drop)]
+pub struct EmptyChannel {
+    pub stage: Stage,
+    pub last_part: u64,
+    pub confirmed: u64,
+}
+
 /// A channel or the monitor, with nothing below it, and what was done to it.
 #[derive(Drop)]
 pub enum MemoryUnit {
-    Channel(CoreChannel, Log),
+    Channel(EmptyChannel, Log),
     Monitor(Monitor, Log),
 }
 
@@ -36,23 +51,19 @@ impl BackedUnit for MemoryUnit {
     ghost actors_keep = { λ _ _ _ _. tt };
 }
 
-/// A channel without an id, at its start.
+/// A channel at its start.
 fn first_channel(alloc: Global) -> MemoryUnit
     ensures { result ≡ first_channel }
 {
-    let channel = CoreChannel {
-        table: Records::new(Vec::new(alloc)),
-        marked: Ids::new(Vec::new(alloc)),
-        grey: Ids::new(Vec::new(alloc)),
-        pins: Ids::new(Vec::new(alloc)),
-        phase: Phase::Idle(0),
+    let channel = EmptyChannel {
+        stage: Stage::Idle(0),
         last_part: 0,
         confirmed: 0,
     };
     MemoryUnit::Channel(channel, Log::new(alloc))
 }
 
-/// Two channels without an id, and a monitor, at their start.
+/// Two channels and a monitor, at their start.
 pub fn first_units(alloc: Global) -> Result<Vec<MemoryUnit>, NoMemory>
     ensures { IfOk result (λ units. units.items ≡ first_units) }
 {
@@ -61,9 +72,7 @@ pub fn first_units(alloc: Global) -> Result<Vec<MemoryUnit>, NoMemory>
 }
 
 /// These units as shards, and the session's pass.
-pub fn memory_shards(
-    alloc: Global,
-) -> Result<(Shards<MemoryUnit>, Pass<MemoryUnit>), NoMemory>
+pub fn memory_shards(alloc: Global) -> Result<(Shards<MemoryUnit>, Pass<MemoryUnit>), NoMemory>
     ensures table { IfOk result (λ made. made.1.table ≡ made.0.table) }
     ensures channels { IfOk result (λ made. made.0.channels ≡ 2) }
     ensures pass { IfOk result (λ made. made.1.known ≡ session_pass (map told_of first_units) 1024) }
