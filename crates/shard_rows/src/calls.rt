@@ -6,7 +6,7 @@ ghost use Rattle.shard_rows.specs.Units.{IsAlike, IsSession};
 use crate::history::{Order, check_history};
 use crate::leaving::rest;
 use crate::session::serve_once;
-use crate::threads::run_all;
+use crate::threads::run_and_close;
 use crate::units::{MemoryUnit, memory_shards};
 use crate::working::act;
 use core_hands::Hand;
@@ -156,8 +156,7 @@ fn the_history_of_three_threads_is_a_run(rt: HostRuntime) {
     let hand = Hand::new(alloc).expect(&rt, "memory");
     let second = shards.split(&mut session, hand);
     let turns = (20_000, 40_000);
-    let session = run_all(&rt, &shards, &order, session, first, second, turns);
-    let (units, _hand) = shards.close(session);
+    let (units, _hand) = run_and_close(&rt, shards, &order, session, first, second, turns);
     let (all, with_step) = order.counts();
     let last = tally(&rt, units.as_slice());
     let (core, steps) = check_history(alloc, units, 3).expect(&rt, "a run");

@@ -8,6 +8,7 @@ use crate::history::Order;
 use crate::session::serve;
 use crate::units::MemoryUnit;
 use crate::working::work;
+use core_hands::Hand;
 use shards::{Pass, Shards};
 use std::sync::Wait;
 use std::thread::{Threads, join};
@@ -73,4 +74,24 @@ pub fn run_all<R: Wait + Threads + Sync>(
         { work_both(rt, shards, order, first, second, turns.1) },
     );
     shards.join(session, workers)
+}
+
+/// The same, and then the shards are closed: the units, and the session's hand.
+pub fn run_and_close<R: Wait + Threads + Sync>(
+    rt: &R,
+    shards: Shards<MemoryUnit>,
+    order: &Order,
+    session: Pass<MemoryUnit>,
+    first: Pass<MemoryUnit>,
+    second: Pass<MemoryUnit>,
+    turns: (u32, u32),
+) -> (Vec<MemoryUnit>, Hand)
+    requires table { (session.table ≡ shards.table) × (first.table ≡ shards.table) × (second.table ≡ shards.table) }
+    requires channels { shards.channels ≡ 2 }
+    requires session { IsSession 3 session.known }
+    requires first { (first.known.own.actor ≡ 1) × (first.known.joined ≡ []) }
+    requires second { (second.known.own.actor ≡ 2) × (second.known.joined ≡ []) }
+{
+    let session = run_all(rt, &shards, order, session, first, second, turns);
+    shards.close(session)
 }
