@@ -1,8 +1,12 @@
 -- The first units are the parts of a start.
-use Rattle.std.proofs.Common.{◌≡◌, ℕ, zero, suc, Some, None, List, [], ◌∷◌, map, refl, sym, ap, ◌∙◌, subst, inl, lit≤}
+use Rattle.std.proofs.Common.{◌≡◌, ℕ, zero, suc, Some, None, List, [], ◌∷◌, map, refl, sym, ap, ◌∙◌, subst, inl, lit≤, lit<, Result, IfOk}
 use Rattle.std.specs.Prelude.{slice_get}
+use Rattle.std.proofs.lemmas.Result.{IfOk-weaker}
+use Rattle.graph_model.specs.Graph.{Graph}
 use Rattle.core_steps.specs.Core.{Core}
-use Rattle.core_steps.specs.Steps.{part_at}
+use Rattle.core_steps.specs.Good.{IsGood}
+use Rattle.core_steps.specs.Steps.{IsStartGraph, part_at, start}
+use Rattle.core_steps.proofs.Starts.{good_start}
 use Rattle.shards.specs.Known.{start_in}
 use Rattle.shards.specs.Making.{AreStart, IsFresh}
 use Rattle.shard_rows.specs.declared.units.MemoryUnit.{MemoryUnit}
@@ -31,3 +35,8 @@ first_start = record {
   parts = parts;
   backed = tt;
 }
+
+-- the start of the empty graph is good
+pub good_started : {E : Type 0} (g : Graph) (actors : ℕ) (r : Result Core E) → g ≡ [] → IfOk r (λ core. core ≡ start g 1024 0 2 actors 1) → IfOk r (λ core. IsGood core)
+good_started g actors r none e = IfOk-weaker r (λ core. core ≡ start g 1024 0 2 actors 1) (λ core. IsGood core)
+    (λ core is. subst IsGood (sym is) (good_start g 1024 0 2 actors 1 (lit< tt) (subst (λ (h : Graph). IsStartGraph h 1024) (sym none) first_start.graph))) e
