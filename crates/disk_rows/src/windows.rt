@@ -11,7 +11,7 @@ pub fn window(alloc: Global) -> Result<Vec<u8>, AllocError>
 }
 
 /// So many bytes, each 0. (The prover would write out a list whose length is a literal.)
-fn zeros(alloc: Global, count: usize) -> Result<Vec<u8>, AllocError>
+pub fn zeros(alloc: Global, count: usize) -> Result<Vec<u8>, AllocError>
     ensures { IfOk result (λ bytes. length bytes.items ≡ count) }
 {
     vec![in alloc; 0u8; count]
