@@ -1,0 +1,27 @@
+-- What a stop may leave of the disks of all channels, and what they hold whatever it leaves.
+use Rattle.std.specs.Prelude.{◌≡◌, ℕ, ◌<◌, Bool, false, IsTrue, List, length, get_or}
+use Rattle.store_io.specs.Whole.{IsImage}
+use Rattle.channel.specs.Images.{Image}
+use Rattle.recovery.specs.Images.{image_at}
+use Rattle.recovery.specs.Stored.{IsStored, Stored}
+
+-- what may be left of a disk: of each file, whether it may be these bytes
+abbrev pub Leaves : Type 0
+Leaves = ℕ → List ℕ → Bool
+
+abbrev pub leaves_at : List Leaves → ℕ → Leaves
+leaves_at leaves j = get_or leaves j (λ (file : ℕ) (bytes : List ℕ). false)
+
+-- one image of each disk
+pub record AreLeft (leaves : List Leaves) (images : List Image) : Type 0 where
+  pub many : length images ≡ length leaves
+  pub each : (j : ℕ) → j < length leaves → IsImage (leaves_at leaves j) (image_at images j)
+
+-- whatever a stop leaves of them, each at a moment of its own, the disks hold this
+abbrev pub Hold : List Leaves → Stored → Type 0
+Hold leaves what = (images : List Image) → AreLeft leaves images → IsStored images what
+
+-- nothing may be left of one disk that might not have been left before
+pub record LeaveNoMore (old new : List Leaves) : Type 0 where
+  pub many : length new ≡ length old
+  pub each : (j file : ℕ) (bytes : List ℕ) → IsTrue (leaves_at new j file bytes) → IsTrue (leaves_at old j file bytes)

@@ -1,0 +1,4 @@
+pub mod Left
+pub mod Damage
+pub mod Full
+pub mod Started
