@@ -1,6 +1,6 @@
 //! The call that opens the disks of all channels.
 
-ghost use Rattle.std.specs.Prelude.{◌≡◌, ◌≤◌, ◌×◌, ◌^◌, ℕ, IsTrue, length, map, IfOk, IfErr};
+ghost use Rattle.std.specs.Prelude.{◌≡◌, ◌≤◌, ◌^◌, ℕ, IsTrue, length, map, IfOk, IfErr};
 ghost use Rattle.core_steps.specs.Steps.{start_monitor};
 ghost use Rattle.channel_files.specs.Channel.{IsInRange};
 ghost use Rattle.channel.specs.State.{ChannelState};
@@ -46,8 +46,8 @@ pub struct Refused<D> {
 
 /// Opens the disks of all channels, of which there are 1 to 64 in the order of their numbers.
 ///
-/// The files that are read are synced before. Nothing is written before all was found right and every log takes the Truncation that it is due; then, by
-/// rising channel, missing headers and the Truncations of stores that not all channels have.
+/// The files that are read are synced before. Nothing is written before all was found right; then, by rising channel, missing headers and the Truncations of
+/// stores that not all channels have. A log that is over its limit takes none: the call ends there.
 pub fn open_all<D: Disk>(alloc: Global, disks: Vec<D>, sizes: Sizes) -> Result<Opened<D>, Refused<D>>
     requires some { 1 ≤ length disks.items }
     requires many { length disks.items ≤ 64 }
@@ -69,11 +69,10 @@ pub fn open_all<D: Disk>(alloc: Global, disks: Vec<D>, sizes: Sizes) -> Result<O
     ensures damaged_calm { (channel : ℕ) (cause : AnyCause) → IfErr result (λ r. r.fault ≡ OpenFault.Damaged channel cause → map D.faults r.disks.items ≡ map D.faults disks.items) }
     ensures damaged_stays { IsTrue D.tells → (channel : ℕ) (cause : AnyCause) → IfErr result (λ r. r.fault ≡ OpenFault.Damaged channel cause
         → (map D.reads r.disks.items ≡ map D.reads disks.items) × LeaveNoMore (map D.leaves disks.items) (map D.leaves r.disks.items)) }
-    // `Full` only where the disks hold something and the log of the first channel that is full has so many bytes. Nothing was written.
+    // `Full` only where the disks hold something and the log of the first channel that is full has so many bytes. The channels in front of it were taken
+    // back: what is kept of that is said below.
     ensures full { IsTrue D.tells → (bytes : ℕ) → IfErr result (λ r. r.fault ≡ OpenFault.Full bytes → ((what : Stored) × IsStored (map D.reads disks.items) what) × IsFirstFull (map D.reads disks.items) bytes) }
     ensures full_calm { (bytes : ℕ) → IfErr result (λ r. r.fault ≡ OpenFault.Full bytes → map D.faults r.disks.items ≡ map D.faults disks.items) }
-    ensures full_stays { IsTrue D.tells → (bytes : ℕ) → IfErr result (λ r. r.fault ≡ OpenFault.Full bytes
-        → (map D.reads r.disks.items ≡ map D.reads disks.items) × LeaveNoMore (map D.leaves disks.items) (map D.leaves r.disks.items)) }
     ensures cause { IfErr result (λ r. r.fault ≡ OpenFault.Fault → OneRose (map D.faults disks.items) (map D.faults r.disks.items)) }
     // The disks come back in order.
     ensures refused { IfErr result (λ r. NoneFell (map D.faults disks.items) (map D.faults r.disks.items)) }
