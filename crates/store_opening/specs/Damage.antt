@@ -1,17 +1,15 @@
 -- What is wrong with what the disks of all channels read as, and with which channel. What is looked for in front of it is right.
-use Rattle.std.specs.Prelude.{◌≡◌, ◌≢◌, ℕ, ◌<◌, List, length, take, None}
-use Rattle.gated_log.specs.Log.{payloads_of}
+use Rattle.std.specs.Prelude.{◌≡◌, ◌≢◌, ℕ, ◌<◌, List, length, None}
 use Rattle.type_desc.specs.declared.desc.TypeDesc.{TypeDesc}
 use Rattle.core_steps.specs.Core.{home}
 use Rattle.store_agreement.specs.Agreement.{AllAgree, IsFirstApart}
 use Rattle.channel.specs.ChunkRule.{HasRightChunks}
-use Rattle.channel.specs.Images.{HasLog, Image, log_header}
-use Rattle.recovery.specs.Images.{IsNextId, image_at, lasts_of, types_header}
+use Rattle.channel.specs.Images.{HasLog, Image}
+use Rattle.recovery.specs.Images.{IsNextId, image_at, lasts_of}
 use Rattle.recovery.specs.Reach.{IsFromRoot}
 use Rattle.recovery.specs.Stored.{HasTypes, tables_at}
-use Rattle.disk_opening.specs.LogFaults.{IsCutAt, IsEntryFault, IsOrderFault}
-use Rattle.disk_opening.specs.TypesReading.{IsTypeFault}
 use Rattle.disk_opening.specs.SearchFaults.{HasNoForm, HasNoType}
+use Rattle.store_opening.specs.WrongFiles.{IsWrongDictionary, IsWrongLog}
 use Rattle.store_opening.specs.declared.fault.Cause.{Cause}
 use Rattle.store_opening.specs.declared.fault.Cause.TheVariants.{Header, Log, Entry, Order, Disagree, TypesHeader, TypesLog, TypesRecord, Chunk, Missing, NoType, Form, Changed}
 
@@ -38,28 +36,23 @@ HaveChunksBelow images m next j = (i : ℕ) → i < j → HasRightChunks (length
 
 -- WHAT IS WRONG
 
--- a file of more than 9 bytes that begins otherwise
-pub record HasOtherHeader (header file : List ℕ) : Type 0 where
-  pub long : 9 < length file
-  pub other : take 8 file ≢ header
-
--- the log of channel j is the first one that is wrong, and this is wrong with its file
-pub record IsFirstWrongLog (images : List Image) (j : ℕ) (Wrong : List ℕ → Type 0) : Type 0 where
+-- the log of channel j is the first one that is wrong, and this is wrong with it
+pub record IsFirstWrongLog (images : List Image) (j : ℕ) (cause : Cause) : Type 0 where
   pub within : j < length images
   pub front : HaveLogsBelow images j
-  pub wrong : Wrong (image_at images j 0)
+  pub wrong : IsWrongLog (length images) j (image_at images j 0) cause
 
 -- the logs are right, and channel j is the first one that fits no agreement
 pub record IsApart (images : List Image) (j number : ℕ) : Type 0 where
   pub logs : HaveLogsBelow images (length images)
   pub first : IsFirstApart record { channel = j; number = number } (lasts_of images)
 
--- the logs are right and agree, and this is wrong with the dictionary's file, which is channel 0's
-pub record IsWrongDictionary (images : List Image) (j : ℕ) (Wrong : List ℕ → Type 0) : Type 0 where
+-- the logs are right and agree, and this is wrong with the dictionary, which is channel 0's
+pub record IsDictionaryDamage (images : List Image) (j : ℕ) (cause : Cause) : Type 0 where
   pub channel : j ≡ 0
   pub m : ℕ
   pub agree : Agree images m
-  pub wrong : Wrong (image_at images 0 1)
+  pub wrong : IsWrongDictionary (length images) (image_at images 0 1) cause
 
 -- channel j is the first one of which a chunk is wrong
 pub record IsFirstWrongChunk (images : List Image) (j : ℕ) : Type 0 where
@@ -82,22 +75,22 @@ pub record IsReachedWrong (images : List Image) (j id : ℕ) (Wrong : (m : ℕ) 
   pub reached : IsFromRoot (tables_at m images) id
   pub wrong : Wrong m types
 
--- An id that is missing and is not the root's.
+-- the id is missing, and is not the root's
 pub record IsAbsent (images : List Image) (m id : ℕ) : Type 0 where
   pub not_root : id ≢ 1
   pub none : tables_at m images id ≡ None
 
--- Of the channel and the cause that are told. Exact, the first in the order of faults: those of logs, of the agreement and of the dictionary. Of
+-- What is wrong where this channel and cause are told. Exact, the first in the order of faults: those of logs, of the agreement and of the dictionary. Of
 -- chunks the channel is the first one, the place is not said; of what the root reaches the id need not be the least.
 abbrev pub IsDamage : List Image → ℕ → Cause → Type 0
-IsDamage images j Header = IsFirstWrongLog images j (HasOtherHeader (log_header (length images) j))
-IsDamage images j (Log at) = IsFirstWrongLog images j (λ file. IsCutAt (log_header (length images) j) file at)
-IsDamage images j (Entry number) = IsFirstWrongLog images j (λ file. IsEntryFault (payloads_of file) number)
-IsDamage images j (Order number) = IsFirstWrongLog images j (λ file. IsOrderFault (payloads_of file) number)
+IsDamage images j Header = IsFirstWrongLog images j Header
+IsDamage images j (Log at) = IsFirstWrongLog images j (Log at)
+IsDamage images j (Entry number) = IsFirstWrongLog images j (Entry number)
+IsDamage images j (Order number) = IsFirstWrongLog images j (Order number)
 IsDamage images j (Disagree number) = IsApart images j number
-IsDamage images j TypesHeader = IsWrongDictionary images j (HasOtherHeader (types_header (length images)))
-IsDamage images j (TypesLog at) = IsWrongDictionary images j (λ file. IsCutAt (types_header (length images)) file at)
-IsDamage images j (TypesRecord number) = IsWrongDictionary images j (λ file. IsTypeFault (payloads_of file) number)
+IsDamage images j TypesHeader = IsDictionaryDamage images j TypesHeader
+IsDamage images j (TypesLog at) = IsDictionaryDamage images j (TypesLog at)
+IsDamage images j (TypesRecord number) = IsDictionaryDamage images j (TypesRecord number)
 IsDamage images j (Chunk file at) = IsFirstWrongChunk images j
 IsDamage images j (Missing id) = IsReachedWrong images j id (λ m types. IsAbsent images m id)
 IsDamage images j (NoType id) = IsReachedWrong images j id (λ m types. HasNoType types (tables_at m images) id)

@@ -1,4 +1,8 @@
 pub mod Left
+pub mod WrongFiles
+pub mod Faults
 pub mod Damage
+pub mod LogsRead
 pub mod Full
+pub mod TakenBack
 pub mod Started

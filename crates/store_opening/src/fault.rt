@@ -1,4 +1,10 @@
 //! Why disks are not opened.
+ghost use Rattle.std.specs.Prelude.{◌≡◌};
+ghost use Rattle.store_opening.specs.Faults.{of_dictionary, of_log};
+
+use disk_opening::{ChannelLogFault, DictionaryFault};
+use std::alloc::AllocFailed;
+use store_io::DiskFailed;
 
 /// What is wrong with what the disks hold. Records are counted from 1.
 #[derive(Clone, Copy, Debug, PartialEq, Eq, Drop)]
@@ -41,4 +47,55 @@ pub enum OpenFault {
     Damaged { channel: u32, cause: Cause },
     /// A Truncation is due on a log of this many bytes, which is over the limit.
     Full { number: u64 },
+}
+
+impl From<DiskFailed> for OpenFault {
+    ghost use Rattle.std.specs.Prelude.{◌≡◌};
+    ghost use Rattle.store_opening.specs.declared.fault.OpenFault.TheVariants.{Fault};
+
+    ghost from_gives = { λ _ e. e ≡ Fault };
+
+    fn from(_: DiskFailed) -> Self {
+        OpenFault::Fault
+    }
+}
+
+impl<T: Drop> From<AllocFailed<T>> for OpenFault {
+    ghost use Rattle.std.specs.Prelude.{◌≡◌};
+    ghost use Rattle.store_opening.specs.declared.fault.OpenFault.TheVariants.{NoMemory};
+
+    ghost from_gives = { λ _ e. e ≡ NoMemory };
+
+    fn from(_: AllocFailed<T>) -> Self {
+        OpenFault::NoMemory
+    }
+}
+
+/// What is wrong with the transactions log of a channel.
+pub(crate) fn of_log(channel: u32, fault: ChannelLogFault) -> OpenFault
+    ensures { result ≡ of_log channel fault }
+{
+    let cause = match fault {
+        ChannelLogFault::NoMemory => return OpenFault::NoMemory,
+        ChannelLogFault::Fault => return OpenFault::Fault,
+        ChannelLogFault::Header => Cause::Header,
+        ChannelLogFault::Log { at } => Cause::Log { at },
+        ChannelLogFault::Entry { record } => Cause::Entry { number: record },
+        ChannelLogFault::Order { record } => Cause::Order { number: record },
+    };
+    OpenFault::Damaged { channel, cause }
+}
+
+/// What is wrong with the dictionary log, on the disk of channel 0.
+pub(crate) fn of_dictionary(fault: DictionaryFault) -> OpenFault
+    ensures { result ≡ of_dictionary fault }
+{
+    let cause = match fault {
+        DictionaryFault::NoMemory => return OpenFault::NoMemory,
+        DictionaryFault::Fault => return OpenFault::Fault,
+        DictionaryFault::Header => Cause::TypesHeader,
+        DictionaryFault::Log { at } => Cause::TypesLog { at },
+        DictionaryFault::Record { record } => Cause::TypesRecord { number: record },
+    };
+    OpenFault::Damaged { channel: 0, cause }
 }
