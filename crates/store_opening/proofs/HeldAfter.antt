@@ -38,12 +38,13 @@ end_at P (image ∷ images) (suc j) within all = end_at P images j (omega arith)
 -- some channel ends with a number that is one of theirs
 one_ends : (m : ℕ) (images : List Image) → Contains (numbers_of (lasts_of images)) m → (j : ℕ) × (j < length images) × ((state_of (image_at images j)).last ≡ m)
 one_ends m [] c = absurd (omega (arith, c.1))
-one_ends m (image ∷ images) c = by c.0 c.1 c.2
+one_ends m (image ∷ images) c = by (one_ends m images) c.0 c.1 c.2
   where
-    by : (k : ℕ) → k < length (numbers_of (lasts_of (image ∷ images))) → get_or (numbers_of (lasts_of (image ∷ images))) k m ≡ m
+    by : (Contains (numbers_of (lasts_of images)) m → (j : ℕ) × (j < length images) × ((state_of (image_at images j)).last ≡ m))
+        → (k : ℕ) → k < length (numbers_of (lasts_of (image ∷ images))) → get_or (numbers_of (lasts_of (image ∷ images))) k m ≡ m
         → (j : ℕ) × (j < length (image ∷ images)) × ((state_of (image_at (image ∷ images) j)).last ≡ m)
-    by zero lt is = (0, omega arith, is)
-    by (suc k) lt is = let t = one_ends m images (k, omega arith, is) in (suc t.0, omega (arith, t.1), t.2)
+    by rest zero lt is = (0, omega arith, is)
+    by rest (suc k) lt is = let t = rest (k, omega arith, is) in (suc t.0, omega (arith, t.1), t.2)
 
 module _ (n j m next : ℕ) (old new : Image) (has : HasLog n j old) (agrees : Agrees m (last_of old)) (right : HasRightChunks n j next m old) (after : IsAfter n j m old new) where
   shows_after : ShowsAt n j m next (disk_at m old) new

@@ -5,3 +5,6 @@ pub mod ShownAgain
 pub mod WrongLogs
 pub mod NothingHeld
 pub mod HeldAfter
+pub mod LiveFiles
+pub mod TakingBack
+pub mod TablesGiven

@@ -15,7 +15,7 @@ use Rattle.recovery.specs.Images.{IsNextId, image_at, lasts_of}
 use Rattle.recovery.specs.Reach.{IsFromRoot}
 use Rattle.recovery.specs.Stored.{HasKnownForm, HasTypes, IsFault, tables_at}
 use Rattle.disk_opening.specs.SearchFaults.{HasNoForm, HasNoType}
-use Rattle.store_opening.specs.Damage.{IsAbsent, IsDamage, IsDictionaryDamage, IsFirstWrongChunk, IsFirstWrongLog, IsReachedWrong}
+use Rattle.store_opening.specs.Damage.{IsAbsent, IsChunkDamage, IsDamage, IsDictionaryDamage, IsFirstWrongLog, IsReachedWrong}
 use Rattle.store_opening.specs.declared.fault.Cause.{Cause}
 use Rattle.store_opening.specs.declared.fault.Cause.TheVariants.{Header, Log, Entry as EntryCause, Order, Disagree, TypesHeader, TypesLog, TypesRecord, Chunk, Missing, NoType, Form, Changed}
 use Rattle.store_opening.proofs.WrongLogs.{wrong_dictionary, wrong_log}
@@ -54,8 +54,8 @@ module _ (images : List Image)
   in_dictionary : (j : ℕ) (cause : Cause) → IsDictionaryDamage images j cause → IsFault images
   in_dictionary j cause is = dictionary (λ types has. wrong_dictionary (length images) (image_at images 0) cause types is.wrong has)
 
-  in_chunk : (j : ℕ) → IsFirstWrongChunk images j → IsFault images
-  in_chunk j is = chunks is.m is.read.agree.agreed is.next j is.read.next_id is.within is.wrong
+  in_chunk : (j : ℕ) → IsChunkDamage images j → IsFault images
+  in_chunk j is = chunks is.m is.read.agree.agreed is.next j is.read.next_id is.first.within is.first.wrong
 
   pub damage_holds_nothing : (j : ℕ) (cause : Cause) → IsDamage images j cause → IsFault images
   damage_holds_nothing j Header is = in_log j Header is

@@ -27,14 +27,12 @@ is_to m r = nat_le r.number m
 -- the chunks up to a store are those of the ranges up to it
 chunks_to : (m : ℕ) (image : Image) (ranges : List Range) → up_to m (map (chunk_at image) ranges) ≡ map (chunk_at image) (filter (is_to m) ranges)
 chunks_to m image [] = refl
-chunks_to m image (r ∷ ranges) = by (nat_le r.number m)
+chunks_to m image (r ∷ ranges) = by (chunks_to m image ranges) (nat_le r.number m)
   where
-    rest : up_to m (map (chunk_at image) ranges) ≡ map (chunk_at image) (filter (is_to m) ranges)
-    rest = chunks_to m image ranges
-
-    by : (b : Bool) → cond b (chunk_at image r ∷ up_to m (map (chunk_at image) ranges)) (up_to m (map (chunk_at image) ranges)) ≡ map (chunk_at image) (cond b (r ∷ filter (is_to m) ranges) (filter (is_to m) ranges))
-    by true = ap (λ (cs : List Chunk). chunk_at image r ∷ cs) rest
-    by false = rest
+    by : up_to m (map (chunk_at image) ranges) ≡ map (chunk_at image) (filter (is_to m) ranges) → (b : Bool)
+        → cond b (chunk_at image r ∷ up_to m (map (chunk_at image) ranges)) (up_to m (map (chunk_at image) ranges)) ≡ map (chunk_at image) (cond b (r ∷ filter (is_to m) ranges) (filter (is_to m) ranges))
+    by rest true = ap (λ (cs : List Chunk). chunk_at image r ∷ cs) rest
+    by rest false = rest
 
 -- SAME FILES
 

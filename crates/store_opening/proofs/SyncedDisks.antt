@@ -1,9 +1,12 @@
 -- What a call of one disk leaves of all.
-use Rattle.std.proofs.Common.{◌≡◌, ℕ, zero, suc, ◌<◌, Bool, IsTrue, List, [], ◌∷◌, ◌++◌, length, set, get_or, map, Option, Some, refl, sym, ◌∙◌, subst, arith, length-set, inl, inr}
+use Rattle.std.proofs.Common.{◌≡◌, ℕ, zero, suc, ◌<◌, Bool, false, IsTrue, List, [], ◌∷◌, ◌++◌, length, set, get_or, map, Option, Some, refl, sym, ◌∙◌, subst, arith, length-set, inl, inr}
 use Rattle.std.specs.Prelude.{slice_get}
 use Rattle.std.proofs.lemmas.Bool.{cases_eq}
 use Rattle.std.proofs.lemmas.List.{length-map}
 use Rattle.store_io.specs.Disk.{Only, OthersStay}
+use Rattle.channel.specs.Images.{Image}
+use Rattle.recovery.specs.Images.{image_at}
+use Rattle.disk_opening.proofs.DiskLists.{told_at}
 use Rattle.store_opening.specs.Left.{LeaveNoMore, Leaves, LeavesNoMore, leaves_at}
 
 -- what is told of the disk at a place, once it was called
@@ -38,6 +41,13 @@ no_more_still first old new was is = record { many = is.many ∙ was.many; each 
 -- what is synced stays so
 pub only_still : (file : ℕ) (bytes : List ℕ) (old new : List Leaves) (j : ℕ) → LeaveNoMore old new → Only bytes (leaves_at old j file) → Only bytes (leaves_at new j file)
 only_still file bytes old new j less only = λ c is. only c (less.each j file c is)
+
+-- what a stop leaves of a file of the disk that was called is what was read of it
+pub only_there : {A : Type 0} (reads : A → Image) (leaves : A → Leaves) (xs : List A) (j : ℕ) (x y : A) (file : ℕ) → j < length xs → Only (reads (get_or xs j x) file) (leaves y file)
+    → Only (image_at (map reads xs) j file) (leaves_at (map leaves (set xs j y)) j file)
+only_there reads leaves xs j x y file within only =
+    subst (λ (l : Leaves). Only (image_at (map reads xs) j file) (l file)) (sym (told_there leaves xs j y (λ (f : ℕ) (bytes : List ℕ). false) within))
+    (subst (λ (i : Image). Only (i file) (leaves y file)) (sym (told_at reads xs j x (λ (f : ℕ). []) within)) only)
 
 -- ONE DISK
 

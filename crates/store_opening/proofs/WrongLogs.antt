@@ -1,5 +1,5 @@
 -- A file with which something is wrong is no log, and no dictionary.
-use Rattle.std.proofs.Common.{◌≡◌, ◌≢◌, ℕ, ◌+◌, ◌≤◌, ◌<◌, false, List, [], ◌∷◌, ◌++◌, length, take, Option, Some, None, Result, Ok, Err, IsErr, refl, sym, ap, ◌∙◌, arith, inl, inr, ◌⊎◌}
+use Rattle.std.proofs.Common.{◌≡◌, ◌≢◌, ℕ, suc, ◌+◌, ◌≤◌, ◌<◌, false, List, [], ◌∷◌, ◌++◌, length, take, Option, Some, None, Result, Ok, Err, IsErr, refl, sym, ap, ◌∙◌, arith, inl, inr, ◌⊎◌}
 use Rattle.std.specs.List.{AllByRecursion, fold}
 use Rattle.std.proofs.lemmas.Bool.{cond-false}
 use Rattle.std.proofs.lemmas.List.{take_at}
@@ -47,7 +47,7 @@ no_inventory payloads at s payload front none =
     ∙ none_on front.behind
 
 no_entry : (s : State) (r : Result Entry BadEntry) → IsErr r → add s r ≡ None
-no_entry s (Ok e) is = absurd is
+no_entry s (Ok e) is = absurd cc
 no_entry s (Err bad) is = refl
 
 no_order : (s : State) (r : Result Entry BadEntry) (e : Entry) → r ≡ Ok e → allowed s e ≡ false → add s r ≡ None
@@ -91,19 +91,22 @@ rest_of e = cc
 next_record : (id : ℕ) (front types : List TypeDesc) (payload : List ℕ) (behind : List (List ℕ)) → AllByRecursion IsRecorded types
     → records_from id types ≡ records_from id front ++ payload ∷ behind → HasNext id front types payload
 next_record id [] [] payload behind all is = absurd cc
-next_record id [] (d ∷ types) payload behind all is = record {
-  desc = d;
-  recorded = all.0;
-  spelled = first_of is ∙ ap (λ (k : ℕ). record_text (k, d)) (omega arith);
-  room = omega arith;
-}
+next_record id [] (d ∷ types) payload behind all is =
+    let same : id ≡ id + 0 = omega arith in
+    record {
+      desc = d;
+      recorded = all.0;
+      spelled = first_of is ∙ ap (λ (k : ℕ). record_text (k, d)) same;
+      room = omega arith;
+    }
 next_record id (t ∷ front) [] payload behind all is = absurd cc
 next_record id (t ∷ front) (d ∷ types) payload behind all is =
     let h = next_record (id + 1) front types payload behind all.1 (rest_of is) in
+    let same : (id + 1) + length front ≡ id + suc (length front) = omega arith in
     record {
       desc = h.desc;
       recorded = h.recorded;
-      spelled = h.spelled ∙ ap (λ (k : ℕ). record_text (k, h.desc)) (omega arith);
+      spelled = h.spelled ∙ ap (λ (k : ℕ). record_text (k, h.desc)) same;
       room = omega (arith, h.room);
     }
 

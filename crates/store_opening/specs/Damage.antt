@@ -54,15 +54,18 @@ pub record IsDictionaryDamage (images : List Image) (j : ℕ) (cause : Cause) : 
   pub agree : Agree images m
   pub wrong : IsWrongDictionary (length images) (image_at images 0 1) cause
 
--- channel j is the first one of which a chunk is wrong
-pub record IsFirstWrongChunk (images : List Image) (j : ℕ) : Type 0 where
+-- channel j is the first one of which a chunk up to the store m is wrong
+pub record IsFirstWrongChunk (images : List Image) (m next j : ℕ) : Type 0 where
+  pub within : j < length images
+  pub front : HaveChunksBelow images m next j
+  pub wrong : ¬ (HasRightChunks (length images) j next m (image_at images j))
+
+pub record IsChunkDamage (images : List Image) (j : ℕ) : Type 0 where
   pub m : ℕ
   pub next : ℕ
   pub types : List TypeDesc
-  pub within : j < length images
   pub read : AreRead images m next types
-  pub front : HaveChunksBelow images m next j
-  pub wrong : ¬ (HasRightChunks (length images) j next m (image_at images j))
+  pub first : IsFirstWrongChunk images m next j
 
 -- all chunks are right, the root reaches the id, whose channel is j, and this is wrong with it
 pub record IsReachedWrong (images : List Image) (j id : ℕ) (Wrong : (m : ℕ) → List TypeDesc → Type 0) : Type 0 where
@@ -91,7 +94,7 @@ IsDamage images j (Disagree number) = IsApart images j number
 IsDamage images j TypesHeader = IsDictionaryDamage images j TypesHeader
 IsDamage images j (TypesLog at) = IsDictionaryDamage images j (TypesLog at)
 IsDamage images j (TypesRecord number) = IsDictionaryDamage images j (TypesRecord number)
-IsDamage images j (Chunk file at) = IsFirstWrongChunk images j
+IsDamage images j (Chunk file at) = IsChunkDamage images j
 IsDamage images j (Missing id) = IsReachedWrong images j id (λ m types. IsAbsent images m id)
 IsDamage images j (NoType id) = IsReachedWrong images j id (λ m types. HasNoType types (tables_at m images) id)
 IsDamage images j (Form id) = IsReachedWrong images j id (λ m types. HasNoForm types (tables_at m images) id)

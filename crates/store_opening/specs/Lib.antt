@@ -4,5 +4,6 @@ pub mod Faults
 pub mod Damage
 pub mod LogsRead
 pub mod Full
+pub mod IndexesRead
 pub mod TakenBack
 pub mod Started

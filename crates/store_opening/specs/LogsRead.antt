@@ -1,5 +1,5 @@
 -- The transactions logs of all channels, as they were read.
-use Rattle.std.specs.Prelude.{◌≡◌, ℕ, ◌≤◌, ◌==◌, if◌then◌else◌, IsTrue, List, slice_get, Some, All, Contains}
+use Rattle.std.specs.Prelude.{◌≡◌, ℕ, IsTrue, List, slice_get, Some}
 use Rattle.gated_log.specs.Log.{payloads_of}
 use Rattle.gated_log.specs.Reading.{IsReading}
 use Rattle.channel_files.specs.Chunks.{ranges_of}
@@ -31,12 +31,3 @@ AreLogsRead n images logs = (j : ℕ) (l : ChannelLog) → slice_get logs j ≡ 
 -- how a log ends
 abbrev pub last_in : ChannelLog → Last
 last_in l = record { number = l.inventory.state.last; last_entry = l.inventory.state.entry }
-
--- the next id that a log has at a store that is its last one, or the one before
-abbrev pub next_in : ℕ → ChannelLog → ℕ
-next_in m l = if l.inventory.state.last == m then l.inventory.state.next_id else l.inventory.state.next_id_before
-
--- it is one of the numbers and at least each
-pub record IsGreatest (d : ℕ) (numbers : List ℕ) : Type 0 where
-  pub one : Contains numbers d
-  pub at_least : All (λ number. number ≤ d) numbers

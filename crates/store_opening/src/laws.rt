@@ -1,8 +1,13 @@
 //! Laws on disks that are damaged, and on disks of which something is taken back.
-ghost use Rattle.std.specs.Prelude.{ℕ, List};
+ghost use Rattle.std.specs.Prelude.{◌≡◌, ◌<◌, ℕ, List, length};
+ghost use Rattle.oid_table.specs.Table.{Table};
+ghost use Rattle.entity_index.specs.declared.row.Row.{Row};
 ghost use Rattle.channel.specs.Images.{Image};
-ghost use Rattle.recovery.specs.Stored.{IsFault, IsStored, Stored};
-ghost use Rattle.store_opening.specs.Damage.{IsDamage};
+ghost use Rattle.recovery.specs.Images.{image_at};
+ghost use Rattle.recovery.specs.Stored.{IsFault, IsStored, Stored, tables_at};
+ghost use Rattle.disk_opening.specs.RowTables.{AreRowsThere, rows_at, rows_in, tables_in};
+ghost use Rattle.store_opening.specs.Damage.{HaveChunksBelow, IsDamage};
+ghost use Rattle.store_opening.specs.IndexesRead.{AreIndexesAt};
 ghost use Rattle.store_opening.specs.TakenBack.{AreAfter};
 ghost use Rattle.store_opening.specs.declared.fault.Cause.{Cause as AnyCause};
 
@@ -22,3 +27,11 @@ pub fn taking_back_keeps_what_is_held()
 {
     images_hold_one();
 }
+
+/// The indexes of all channels, whose chunks are right up to a store, give the tables of what the disks hold there, and their rows stand on the disks.
+pub fn indexes_give_the_tables()
+    ensures there { (m next : ℕ) (images : List Image) (indexes : List (Table Row)) → length indexes ≡ length images → HaveChunksBelow images m next (length images) → AreIndexesAt m images indexes
+        → (j : ℕ) → AreRowsThere (image_at images j) (rows_at (rows_in indexes) j) }
+    ensures tables { (m next : ℕ) (images : List Image) (indexes : List (Table Row)) → length indexes ≡ length images → HaveChunksBelow images m next (length images) → AreIndexesAt m images indexes
+        → 0 < length images → (x : ℕ) → tables_in images (rows_in indexes) x ≡ tables_at m images x }
+{}
