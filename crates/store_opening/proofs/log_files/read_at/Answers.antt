@@ -1,5 +1,5 @@
 -- One of the disks is read.
-use Rattle.std.proofs.Common.{◌≡◌, ℕ, List, [], IfOk, sym, subst}
+use Rattle.std.proofs.Common.{◌≡◌, ℕ, List, [], length, IfOk, sym, subst}
 use Rattle.std.proofs.lemmas.Result.{on_ok_weaker}
 use Rattle.channel.specs.Images.{Image}
 use Rattle.disk_opening.proofs.DiskLists.{all_told, one_higher, one_rose, told_at}
@@ -9,7 +9,7 @@ use Rattle.store_opening.proofs.SyncedDisks.{one_leaves_no_more, only_there}
 use Rattle.store_opening.proofs.log_files.read_at.Goals as goal
 
 pub returns-clause-read : goal.returns-clause-read
-returns-clause-read g c tells = subst (λ (i : Image). IfOk c.read_file.result (IsLogRead _ c.args.place i))
+returns-clause-read g c tells = subst (λ (i : Image). IfOk c.read_file.result (IsLogRead (length c.args.disks.now) c.args.place i))
     (sym (told_at g.D.Disk.reads c.args.disks.now c.args.place c.index-disks-place.result (λ (f : ℕ). []) c.requires.within)) (c.read_file.ensures.read tells)
 
 pub returns-clause-synced : goal.returns-clause-synced
@@ -20,7 +20,7 @@ returns-clause-synced g c tells = on_ok_weaker c.read_file.result
 pub returns-clause-damaged : goal.returns-clause-damaged
 returns-clause-damaged g c tells j cause is =
     let t = c.read_file.ensures.damaged tells j cause is in
-    (t.0, subst (λ (i : Image). IsWrongLog _ c.args.place (i 0) cause) (sym (told_at g.D.Disk.reads c.args.disks.now c.args.place c.index-disks-place.result (λ (f : ℕ). []) c.requires.within)) t.1)
+    (t.0, subst (λ (i : Image). IsWrongLog (length c.args.disks.now) c.args.place (i 0) cause) (sym (told_at g.D.Disk.reads c.args.disks.now c.args.place c.index-disks-place.result (λ (f : ℕ). []) c.requires.within)) t.1)
 
 pub returns-clause-reads : goal.returns-clause-reads
 returns-clause-reads g c tells = all_told g.D.Disk.reads c.args.disks.now c.args.place c.index-disks-place.result c.read_file.new.disk (c.read_file.ensures.reads tells)
