@@ -1,5 +1,5 @@
 -- The logs that were read so far, and one more.
-use Rattle.std.proofs.Common.{◌≡◌, ℕ, ◌+◌, ◌<◌, ◌≤◌, IsTrue, List, [], ◌∷◌, ◌++◌, length, map, Some, refl, sym, ◌∙◌, ap, subst, arith, inl, inr}
+use Rattle.std.proofs.Common.{◌≡◌, ℕ, ◌+◌, ◌<◌, ◌≤◌, IsTrue, List, [], ◌∷◌, ◌++◌, length, map, Some, Result, Ok, Err, IsErrAnd, IsErrOf, refl, sym, ◌∙◌, ap, subst, arith, inl, inr}
 use Rattle.std.specs.Prelude.{slice_get}
 use Rattle.std.proofs.lemmas.Bool.{cases_order}
 use Rattle.std.proofs.lemmas.List.{length_push}
@@ -45,3 +45,7 @@ synced_more place file images old new all less here i below = elim (cases_order 
   | inr (inl lt) ↦ only_still file (image_at images i file) old new i less (all i lt)
   | inr (inr gt) ↦ absurd (omega arith)
 ]
+
+pub same_fault : {T E : Type 0} (r : Result T E) (e d : E) → IsErrAnd r (λ f. f ≡ e) → IsErrOf r d → e ≡ d
+same_fault (Ok x) e d is was = absurd is
+same_fault (Err f) e d is was = cc
