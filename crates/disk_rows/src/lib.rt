@@ -20,6 +20,8 @@ mod inventories;
 #[cfg(test)]
 mod logs;
 #[cfg(test)]
+mod openings;
+#[cfg(test)]
 mod recoveries;
 #[cfg(test)]
 mod silent_disk;
