@@ -3,6 +3,7 @@
 
 mod block;
 mod memory;
+mod packing;
 mod place;
 mod region;
 mod runs;
