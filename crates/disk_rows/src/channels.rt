@@ -170,12 +170,7 @@ fn store_one(alloc: Global, channel: &mut Channel<SilentDisk>, hand: &mut Hand) 
 }
 
 /// Whether a file of the disk has just these bytes.
-fn file_is(
-    alloc: Global,
-    disk: &mut SilentDisk,
-    file: u32,
-    wanted: &[u8],
-) -> Result<bool, Fail> {
+fn file_is(alloc: Global, disk: &mut SilentDisk, file: u32, wanted: &[u8]) -> Result<bool, Fail> {
     if disk.len(file)? != wanted.len() as u64 {
         return Ok(false);
     }
