@@ -1,0 +1,54 @@
+-- How a block for a content is found, and what stands once it was kept.
+use Rattle.std.proofs.Common.{◌≡◌, ◌≢◌, ℕ, ◌+◌, ◌-◌, ◌*◌, ◌/◌, ◌<◌, ◌≤◌, ◌⊎◌, List, [], ◌∷◌, length, Option, Some, None, refl, sym, ap, subst, ◌∙◌, arith, inl, inr}
+use Rattle.std.proofs.lemmas.List.{length-take}
+use Rattle.entity_region.specs.Space.{Space, size, most, live, free, rounded, with_block, AreWritten, HasNoHole, IsPacked, IsTaken}
+use Rattle.entity_cache.specs.declared.kept.Kept.{Kept}
+use Rattle.entity_cache.specs.declared.kept.Kept.TheVariants.{Yes, NoHole, NoMemory}
+use Rattle.entity_cache.specs.Cached.{block_of, content_of, IsHeld, ForeignStay, StaysOrLeaves, HaveLeft, IsOneHole}
+use Rattle.entity_cache.specs.Keeping.{HasRoom, HasKept}
+use Rattle.entity_cache.proofs.HeldLemmas.{left_none, left_packed, left_again, left_again_given, held_kept, content_kept, content_others, foreign_kept, hole_for}
+
+pub room_first : (region taken : Space) (cache : List (ℕ × ℕ)) (n number : ℕ) → IsHeld region cache → IsTaken region taken n number → HasRoom region cache taken cache n number
+room_first region taken cache n number held is = record { before = region; left = left_none region cache held; taken = is }
+
+module _ (region given packed : Space) (cache after : List (ℕ × ℕ)) (n : ℕ) (left : HaveLeft region cache given after) (packs : IsPacked given packed) where
+  pub left_then_packed : HaveLeft region cache packed after
+  left_then_packed = left_again region given packed cache after after left (left_packed given packed after left.held packs)
+
+  pub room_packed : (taken : Space) (number : ℕ) → IsTaken packed taken n number → HasRoom region cache taken after n number
+  room_packed taken number is = record { before = packed; left = left_then_packed; taken = is }
+
+  pub empty_packed : (wanted : ℕ) → wanted ≡ rounded n → (wanted ≤ free given) ⊎ (after ≡ []) → HasNoHole packed (rounded n) → after ≡ []
+  empty_packed wanted is (inr empty) none = empty
+  empty_packed wanted is (inl enough) none = let stays = packs.free_stays in absurd (hole_for packed (rounded n) packs.one_hole (omega arith) none)
+
+  pub room_stays : live region < most region → live packed < most packed
+  room_stays room =
+      let count = left_then_packed.foreign.count_stays in
+      let same = left_then_packed.foreign.most_stays in
+      let fewer = left_then_packed.fewer in
+      omega arith
+
+module _ (before taken written : Space) (cache after : List (ℕ × ℕ)) (id number : ℕ) (bytes : List ℕ) (held : IsHeld before cache) (is : IsTaken before taken (length bytes) number)
+    (put : AreWritten taken written number bytes) (blocks : written.blocks ≡ taken.blocks) (sized : size written ≡ size taken) (new : block_of cache id ≡ None) where
+  pub put_yes : after ≡ (id, number) ∷ cache → HasKept before cache written after id bytes Yes
+  put_yes after_is = subst (λ c. HasKept before cache written c id bytes Yes) (sym after_is) (record {
+    held = held_kept before taken written cache id (length bytes) number bytes held is put blocks sized new;
+    kept = λ yes. content_kept before taken written cache id (length bytes) number bytes held is put blocks sized new;
+    unkept = λ other. absurd (other refl);
+    others = λ other differs. inl (content_others before taken written cache id (length bytes) number bytes held is put blocks sized new other differs);
+    foreign = foreign_kept before taken written cache id (length bytes) number bytes held is put blocks sized new;
+    hole = λ same. absurd cc;
+  })
+
+  pub put_no : after ≡ cache → HasKept before cache (with_block written number None) after id bytes NoMemory
+  put_no after_is =
+      let left = left_again_given before taken written cache id (length bytes) number bytes held is put blocks sized new in
+      subst (λ c. HasKept before cache (with_block written number None) c id bytes NoMemory) (sym after_is) (record {
+        held = left.held;
+        kept = λ yes. absurd cc;
+        unkept = λ other. new;
+        others = λ other differs. left.all other;
+        foreign = left.foreign;
+        hole = λ same. absurd cc;
+      })
