@@ -118,6 +118,14 @@ module _ (region : Space) (cache after : List (ℕ × ℕ)) (id number : ℕ) (h
     fewer = omega arith;
   }
 
+pub some_entry : (cache : List (ℕ × ℕ)) (id number : ℕ) → block_of cache id ≡ Some number → 1 ≤ length cache
+some_entry [] id number is = absurd cc
+some_entry (e ∷ es) id number is = omega arith
+
+pub no_entries : (cache : List (ℕ × ℕ)) → length cache ≡ 0 → cache ≡ []
+no_entries [] none = refl
+no_entries (e ∷ es) none = absurd (omega arith)
+
 -- ---- nothing leaves
 
 pub foreign_same : (region : Space) (cache : List (ℕ × ℕ)) → ForeignStay region cache region cache
@@ -128,6 +136,9 @@ foreign_same region cache = record {
   no_more = λ n foreign lives. (foreign, lives);
   count_stays = refl;
 }
+
+pub foreign_none : (region : Space) (cache after : List (ℕ × ℕ)) → after ≡ cache → ForeignStay region cache region after
+foreign_none region cache after same = subst (ForeignStay region cache region) (sym same) (foreign_same region cache)
 
 pub left_none : (region : Space) (cache : List (ℕ × ℕ)) → IsHeld region cache → HaveLeft region cache region cache
 left_none region cache held = record { held = held; all = λ id. inl refl; foreign = foreign_same region cache; fewer = omega arith }

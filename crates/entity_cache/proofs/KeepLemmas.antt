@@ -1,12 +1,16 @@
 -- How a block for a content is found, and what stands once it was kept.
-use Rattle.std.proofs.Common.{◌≡◌, ◌≢◌, ℕ, ◌+◌, ◌-◌, ◌*◌, ◌/◌, ◌<◌, ◌≤◌, ◌⊎◌, List, [], ◌∷◌, length, Option, Some, None, refl, sym, ap, subst, ◌∙◌, arith, inl, inr}
-use Rattle.std.proofs.lemmas.List.{length-take}
-use Rattle.entity_region.specs.Space.{Space, size, most, live, free, rounded, with_block, AreWritten, HasNoHole, IsPacked, IsTaken}
+use Rattle.std.proofs.Common.{◌≡◌, ◌≢◌, ℕ, ◌+◌, ◌-◌, ◌*◌, ◌/◌, ◌<◌, ◌≤◌, ◌⊎◌, List, [], ◌∷◌, length, Option, Some, None, refl, sym, ap, subst, ◌∙◌, arith, inl, inr, length-append, length-drop}
+use Rattle.std.specs.Option.{option_map_or}
+use Rattle.std.proofs.lemmas.List.{length-take, get_or-set_same}
+use Rattle.entity_region.specs.Space.{Space, size, most, live, free, rounded, block_at, written, with_block, with_bytes, Placed, AreWritten, HasNoHole, IsPacked, IsTaken}
 use Rattle.entity_cache.specs.declared.kept.Kept.{Kept}
 use Rattle.entity_cache.specs.declared.kept.Kept.TheVariants.{Yes, NoHole, NoMemory}
 use Rattle.entity_cache.specs.Cached.{block_of, content_of, IsHeld, ForeignStay, StaysOrLeaves, HaveLeft, IsOneHole}
 use Rattle.entity_cache.specs.Keeping.{HasRoom, HasKept}
 use Rattle.entity_cache.proofs.HeldLemmas.{left_none, left_packed, left_again, left_again_given, held_kept, content_kept, content_others, foreign_kept, hole_for}
+
+length_written : (xs w : List ℕ) (at : ℕ) → at + length w ≤ length xs → length (written xs at w) ≡ length xs
+length_written xs w at inside = simp (length-take, length-append, length-drop) (omega arith)
 
 pub room_first : (region taken : Space) (cache : List (ℕ × ℕ)) (n number : ℕ) → IsHeld region cache → IsTaken region taken n number → HasRoom region cache taken cache n number
 room_first region taken cache n number held is = record { before = region; left = left_none region cache held; taken = is }
@@ -52,3 +56,13 @@ module _ (before taken written : Space) (cache after : List (ℕ × ℕ)) (id nu
         foreign = left.foreign;
         hole = λ same. absurd cc;
       })
+
+-- bytes that are written into a block leave the size of the region
+pub sized_written : (before taken : Space) (n number : ℕ) (bytes : List ℕ) → IsTaken before taken n number → length bytes ≡ n → size (with_bytes taken number bytes) ≡ size taken
+sized_written before taken n number bytes is len =
+    let p : Placed = record { at = is.at; len = n } in
+    let there : block_at taken number ≡ Some p = ap (λ s. block_at s number) is.becomes ∙ get_or-set_same before.blocks number (Some p) None is.below in
+    let begins : option_map_or (λ q. q.at) (block_at taken number) 0 ≡ is.at = ap (λ o. option_map_or (λ q. q.at) o 0) there in
+    let same : size taken ≡ size before = ap size is.becomes in
+    let inside = is.hole.inside in
+    ap (λ at. length (written taken.memory at bytes)) begins ∙ length_written taken.memory bytes is.at (omega arith)

@@ -115,8 +115,8 @@ impl EntityCache {
         ensures none { result ≡ false → self.new ≡ [] }
     {
         match self.blocks.give_up() {
-            Some((_id, block)) => {
-                region.give(block);
+            Some(given) => {
+                region.give(given.1);
                 true
             }
             None => false,
@@ -125,6 +125,7 @@ impl EntityCache {
 
     /// Whether all entries or all blocks are in use.
     fn is_full(&self, region: &Region) -> bool
+        ensures most { length self.now ≤ most_entries }
         ensures entries { result ≡ false → length self.now < most_entries }
         ensures blocks { result ≡ false → live region.now < most region.now }
     {
