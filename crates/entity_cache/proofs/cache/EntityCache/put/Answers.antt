@@ -21,5 +21,8 @@ returns c = λ before held taken.
           let order = subst (λ o. OnOk o (c.keep.new.self ≡ (c.args.id, block) ∷ c.self.inside.blocks)) w.in-Ok.is c.keep.ensures.order in
           let region_is : c.match-keep.region ≡ now = w.region-is ∙ ap (with_bytes region block) c.copy_from_slice.ensures.after in
           rw (region_is, w.result-is) (put_yes before region now cache c.keep.new.self c.args.id block bytes held taken written refl sized c.requires.new (order ∙ ap (λ es. (c.args.id, block) ∷ es) c.self.view_is))
-      | in-Err w ↦ let k = w.in-Err in let g = w.give in let r = w.region-is in ?
+      | in-Err w ↦
+          let region_is : c.match-keep.region ≡ with_block now block None =
+              w.region-is ∙ w.give.ensures ∙ ap (λ b. with_block (with_bytes region block b) w.in-Err.refused.content None) c.copy_from_slice.ensures.after ∙ ap (λ n. with_block now n None) w.in-Err.ensures.back in
+          rw (region_is, w.result-is) (put_no before region now cache c.keep.new.self c.args.id block bytes held taken written refl sized c.requires.new (w.in-Err.ensures.refused ∙ c.self.view_is))
     ]
