@@ -192,6 +192,27 @@ left_again r s t a b c first second = record {
   fewer = let once = first.fewer in let twice = second.fewer in omega arith;
 }
 
+-- an id that is not cached is not cached once others have left
+pub none_stays : (r s : Space) (a b : List (ℕ × ℕ)) (id : ℕ) → HaveLeft r a s b → block_of a id ≡ None → block_of b id ≡ None
+none_stays r s a b id left none = go (block_of b id) refl
+  where
+    was_none : content_of r a id ≡ None
+    was_none = ap (option_and_then (bytes_at r)) none
+
+    is_none : content_of s b id ≡ None
+    is_none = elim (left.all id) [
+      | inl same ↦ same ∙ was_none
+      | inr gone ↦ gone
+    ]
+
+    go : (o : Option ℕ) → block_of b id ≡ o → block_of b id ≡ None
+    go None now = now
+    go (Some n) now =
+        let p = some_is (block_at s n) (left.held.live id n now) in
+        let shown : content_of s b id ≡ Some (bytes_of s.memory p.0) = ap (option_and_then (bytes_at s)) now ∙ ap (option_map (bytes_of s.memory)) p.1 in
+        let hidden = is_none in
+        absurd cc
+
 -- ---- one more content
 
 module _ (before taken written : Space) (cache : List (ℕ × ℕ)) (id n number : ℕ) (bytes : List ℕ) (held : IsHeld before cache) (is : IsTaken before taken n number) (put : AreWritten taken written number bytes)

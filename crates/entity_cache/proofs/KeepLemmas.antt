@@ -7,7 +7,7 @@ use Rattle.entity_cache.specs.declared.kept.Kept.{Kept}
 use Rattle.entity_cache.specs.declared.kept.Kept.TheVariants.{Yes, NoHole, NoMemory}
 use Rattle.entity_cache.specs.Cached.{block_of, content_of, IsHeld, ForeignStay, StaysOrLeaves, HaveLeft, IsOneHole}
 use Rattle.entity_cache.specs.Keeping.{HasRoom, HasKept}
-use Rattle.entity_cache.proofs.HeldLemmas.{left_none, left_packed, left_again, left_again_given, held_kept, content_kept, content_others, foreign_kept, hole_for}
+use Rattle.entity_cache.proofs.HeldLemmas.{left_none, left_packed, left_again, left_again_given, held_kept, content_kept, content_others, foreign_kept, foreign_again, stays_again, none_stays, hole_for}
 
 length_written : (xs w : List ℕ) (at : ℕ) → at + length w ≤ length xs → length (written xs at w) ≡ length xs
 length_written xs w at inside = simp (length-take, length-append, length-drop) (omega arith)
@@ -66,3 +66,24 @@ sized_written before taken n number bytes is len =
     let same : size taken ≡ size before = ap size is.becomes in
     let inside = is.hole.inside in
     ap (λ at. length (written taken.memory at bytes)) begins ∙ length_written taken.memory bytes is.at (omega arith)
+
+-- ---- the whole of a call: an id is forgotten, others leave for room, and a block comes
+
+module _ (region bare roomy taken : Space) (cache less fewer last : List (ℕ × ℕ)) (id n number : ℕ) (gone : block_of less id ≡ None)
+    (others : (other : ℕ) → other ≢ id → content_of bare less other ≡ content_of region cache other) (foreign : ForeignStay region cache bare less)
+    (left : HaveLeft bare less roomy fewer) where
+  pub none_made : block_of fewer id ≡ None
+  none_made = none_stays bare roomy less fewer id left gone
+
+  module _ (after : Space) (now : HaveLeft roomy fewer after last) where
+    all_left : HaveLeft bare less after last
+    all_left = left_again bare roomy after less fewer last left now
+
+    pub none_last : block_of last id ≡ None
+    none_last = none_stays bare after less last id all_left gone
+
+    pub others_last : (other : ℕ) → other ≢ id → StaysOrLeaves region cache after last other
+    others_last other differs = stays_again region bare after cache less last other (inl (others other differs)) (all_left.all other)
+
+    pub foreign_last : ForeignStay region cache after last
+    foreign_last = foreign_again region bare after cache less last foreign all_left.foreign
