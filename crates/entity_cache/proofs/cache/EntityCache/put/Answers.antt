@@ -23,6 +23,6 @@ returns c = λ before held taken.
           rw (region_is, w.result-is) (put_yes before region now cache c.keep.new.self c.args.id block bytes held taken written refl sized c.requires.new (order ∙ ap (λ es. (c.args.id, block) ∷ es) c.self.view_is))
       | in-Err w ↦
           let region_is : c.match-keep.region ≡ with_block now block None =
-              w.region-is ∙ w.give.ensures ∙ ap (λ b. with_block (with_bytes region block b) w.in-Err.refused.content None) c.copy_from_slice.ensures.after ∙ ap (λ n. with_block now n None) w.in-Err.ensures.back in
+          w.region-is ∙ w.give.ensures ∙ ap (λ b. with_block (with_bytes region block b) w.in-Err.refused.content None) c.copy_from_slice.ensures.after ∙ ap (λ n. with_block now n None) w.in-Err.ensures.back in
           rw (region_is, w.result-is) (put_no before region now cache c.keep.new.self c.args.id block bytes held taken written refl sized c.requires.new (w.in-Err.ensures.refused ∙ c.self.view_is))
     ]
