@@ -6,8 +6,8 @@ mod FaultsSaid
 mod PassedTypes
 mod ChunksRead
 mod LowFiles
-mod RowsStand
-mod DiskLists
+pub mod RowsStand
+pub mod DiskLists
 mod EntitiesRead
 mod SearchSteps
 mod KeySets

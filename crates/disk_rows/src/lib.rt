@@ -14,6 +14,8 @@ mod entries;
 #[cfg(test)]
 mod files;
 #[cfg(test)]
+mod holes;
+#[cfg(test)]
 mod indexes;
 #[cfg(test)]
 mod inventories;
@@ -21,6 +23,8 @@ mod inventories;
 mod logs;
 #[cfg(test)]
 mod recoveries;
+#[cfg(test)]
+mod regions;
 #[cfg(test)]
 mod silent_disk;
 #[cfg(test)]

@@ -24,7 +24,7 @@ place_other places i j o differs = get_or-set_other places i j o None (λ same. 
 -- ---- a block that is put where its units are clear
 
 -- each block in `set places i (Some p)` is p or one that was there
-old_or_new : (places : List (Option Place)) (i j : ℕ) (p q : Place) → i < length places → place_at (set places i (Some p)) j ≡ Some q
+pub old_or_new : (places : List (Option Place)) (i j : ℕ) (p q : Place) → i < length places → place_at (set places i (Some p)) j ≡ Some q
     → ((i ≡ j) × (p ≡ q)) ⊎ ((i ≢ j) × (place_at places j ≡ Some q))
 old_or_new places i j p q below is = elim (cases_eq i j) [
   | inl same ↦

@@ -7,3 +7,5 @@ pub mod RegionLemmas
 pub mod ShapeLemmas
 pub mod NewLemmas
 pub mod WrittenLemmas
+pub mod ListedLemmas
+pub mod PackLemmas

@@ -19,7 +19,7 @@ pub shaped_tree : (levels nodes units : ℕ) (node_list : List Runs) (unit_list 
 shaped_tree levels nodes units node_list unit_list shape nodes_are units_are =
     rw (nodes_are, units_are, shape.nodes_are, shape.units_are) (blank_tree shape.width levels)
 
-sum_none : {A : Type 0} (f : A → ℕ) (a : A) (n : ℕ) → f a ≡ 0 → sum_by f (replicate n a) ≡ 0
+pub sum_none : {A : Type 0} (f : A → ℕ) (a : A) (n : ℕ) → f a ≡ 0 → sum_by f (replicate n a) ≡ 0
 sum_none f a zero none = refl
 sum_none f a (suc n) none = let below = sum_none f a n none in let more = sum_by-cons f a (replicate n a) in omega arith
 
@@ -32,10 +32,10 @@ none_placed n i = elim (cases_lt i n) [
 never_placed : (n i : ℕ) (p : Place) → place_at (replicate n None) i ≡ Some p → ⊥
 never_placed n i p is = let none = none_placed n i in absurd cc
 
-pub sound_new : (bytes : List ℕ) (before units : List Bool) (nodes : List Runs) (levels count total bound : ℕ) (places : List (Option Place)) (numbers : List ℕ) → length bytes ≡ 16 * count
-    → count ≤ total → before ≡ replicate total true → IsTree levels nodes units → IsFilled before units 0 count false → places ≡ replicate bound None → AreAll bound numbers
-    → IsSound bytes units nodes levels places numbers 0 (16 * count)
-sound_new bytes before units nodes levels count total bound places numbers sized enough before_is tree filled places_are all =
+pub sound_new : (bytes : List ℕ) (before units : List Bool) (nodes : List Runs) (levels count total bound room : ℕ) (places : List (Option Place)) (numbers : List ℕ) → length bytes ≡ 16 * count
+    → count ≤ total → before ≡ replicate total true → IsTree levels nodes units → IsFilled before units 0 count false → places ≡ replicate bound None → AreAll bound numbers → room ≡ bound
+    → IsSound bytes units nodes levels places numbers 0 (16 * count) room
+sound_new bytes before units nodes levels count total bound room places numbers sized enough before_is tree filled places_are all room_is =
     let len = length-replicate total true in
     let same : length units ≡ total = filled.count ∙ ap length before_is ∙ len in
     let used : (u : ℕ) → u < count → unit_at before u ≡ true = λ u inside. ap (λ k. unit_at k u) before_is ∙ get_or-replicate total u true true (omega arith) in
@@ -71,6 +71,7 @@ sound_new bytes before units nodes levels count total bound places numbers sized
       };
       counted = omega arith;
       free_is = omega arith;
+      ordered = omega (arith, ap length places_are, length-replicate {A = Option Place} bound None, room_is);
     }
 
 pub none_view : (n : ℕ) → map (option_map placed_of) (replicate n None) ≡ replicate n None

@@ -1,5 +1,5 @@
 -- What a region keeps belongs together once a block was taken or given back.
-use Rattle.std.proofs.Common.{◌≡◌, ℕ, ◌+◌, ◌-◌, ◌*◌, ◌/◌, ◌<◌, ◌≤◌, true, false, Bool, List, ◌++◌, length, get_or, set, take, map, Option, Some, None, sym, ap, subst, ◌∙◌, arith}
+use Rattle.std.proofs.Common.{◌≡◌, ℕ, ◌+◌, ◌-◌, ◌*◌, ◌/◌, ◌<◌, ◌≤◌, true, false, Bool, List, ◌++◌, length, get_or, set, take, map, Option, Some, None, sym, ap, subst, ◌∙◌, arith, length-set}
 use Rattle.std.specs.Prelude.{is_some}
 use Rattle.std.specs.List.{count_by}
 use Rattle.std.specs.Option.{option_map}
@@ -17,8 +17,8 @@ use Rattle.entity_region.proofs.ViewLemmas.{block_view, hole_view, run_view, liv
 pub written_back : {A : Type 0} (n : ℕ) (xs ys : List A) → length xs ≡ n → take n (xs ++ ys) ≡ xs
 written_back n xs ys same = subst (λ m. take m (xs ++ ys) ≡ xs) same (take-append_seam xs ys)
 
-module _ (bytes : List ℕ) (units : List Bool) (nodes : List Runs) (levels : ℕ) (places : List (Option Place)) (numbers : List ℕ) (now free : ℕ)
-    (sound : IsSound bytes units nodes levels places numbers now free) where
+module _ (bytes : List ℕ) (units : List Bool) (nodes : List Runs) (levels : ℕ) (places : List (Option Place)) (numbers : List ℕ) (now free room : ℕ)
+    (sound : IsSound bytes units nodes levels places numbers now free room) where
   -- a number is free where there may be one more block
   pub number_left : live (space_of bytes places) < most (space_of bytes places) → now < length numbers
   number_left room =
@@ -37,7 +37,7 @@ module _ (bytes : List ℕ) (units : List Bool) (nodes : List Runs) (levels : �
 
   pub sound_taken : (new_units : List Bool) (new_nodes : List Runs) (number unit wanted n : ℕ) → now < length numbers → number ≡ get_or numbers now 0 → 0 < n → wanted ≡ units_of n
       → IsFirstClear units wanted unit → IsTree levels new_nodes new_units → IsFilled units new_units unit (unit + wanted) true
-      → IsSound bytes new_units new_nodes levels (set places number (Some (record { unit = unit; len = n }))) numbers (now + 1) (free - 16 * wanted)
+      → IsSound bytes new_units new_nodes levels (set places number (Some (record { unit = unit; len = n }))) numbers (now + 1) (free - 16 * wanted) room
   sound_taken new_units new_nodes number unit wanted n left number_is some wanted_is first tree filled =
       let p : Place = record { unit = unit; len = n } in
       let all = sound.spare.all in
@@ -59,6 +59,7 @@ module _ (bytes : List ℕ) (units : List Bool) (nodes : List Runs) (levels : �
         spare = subst (λ k. AreSpare numbers (now + 1) (set places k (Some p))) (sym number_is) (spare_put numbers now places p sound.spare left);
         counted = omega arith;
         free_is = omega arith;
+        ordered = omega (arith, sound.ordered, length-set places number (Some p));
       }
 
   pub view_taken : (number unit wanted n : ℕ) → now < length numbers → number ≡ get_or numbers now 0 → 0 < n → wanted ≡ units_of n → IsFirstClear units wanted unit
@@ -92,7 +93,7 @@ module _ (bytes : List ℕ) (units : List Bool) (nodes : List Runs) (levels : �
 
   pub sound_given : (new_units : List Bool) (new_nodes : List Runs) (number n : ℕ) (p : Place) → place_at places number ≡ Some p → n ≡ units_of p.len
       → IsTree levels new_nodes new_units → IsFilled units new_units p.unit (p.unit + n) false
-      → IsSound bytes new_units new_nodes levels (set places number None) (set numbers (now - 1) number) (now - 1) (free + 16 * n)
+      → IsSound bytes new_units new_nodes levels (set places number None) (set numbers (now - 1) number) (now - 1) (free + 16 * n) room
   sound_given new_units new_nodes number n p is n_is tree filled =
       let filled_p : IsFilled units new_units p.unit (end_unit p) false = subst (λ k. IsFilled units new_units p.unit (p.unit + k) false) n_is filled in
       let inside = sound.laid_out.inside number p is in
@@ -110,6 +111,7 @@ module _ (bytes : List ℕ) (units : List Bool) (nodes : List Runs) (levels : �
         spare = spare_given numbers now places number p sound.spare is;
         counted = omega arith;
         free_is = omega arith;
+        ordered = let len : length (set places number None) ≡ length places = length-set places number None in omega (arith, sound.ordered, len);
       }
 
   pub view_given : (number : ℕ) → space_of bytes (set places number None) ≡ with_block (space_of bytes places) number None

@@ -8,7 +8,7 @@ use Rattle.std.proofs.lemmas.List.{get_or-map, get_or_past, take-append-le, leng
 use Rattle.std.proofs.lemmas.List.Sums.{sum_by-cons}
 use Rattle.entity_region.specs.declared.place.Place.{Place}
 use Rattle.entity_region.specs.Units.{unit_at, IsClear}
-use Rattle.entity_region.specs.Space.{Placed, rounded, block_at, free, written, IsDisjoint, IsHole}
+use Rattle.entity_region.specs.Space.{Placed, rounded, block_at, bytes_of, free, written, IsDisjoint, IsHole}
 use Rattle.entity_region.specs.Sound.{units_of, end_unit, place_at, placed_of, space_of, AreLaidOut, AreMarked, taken}
 
 pub block_view : (bytes : List ℕ) (places : List (Option Place)) (i : ℕ) → block_at (space_of bytes places) i ≡ option_map placed_of (place_at places i)
@@ -31,6 +31,11 @@ seen bytes places i p is = go (place_at places i) refl
     go : (o : Option Place) → place_at places i ≡ o → IsSeen places i p
     go None none = let shown = block_view bytes places i ∙ ap (option_map placed_of) none in absurd cc
     go (Some q) some = let shown = block_view bytes places i ∙ ap (option_map placed_of) some in record { place = q; is = some; placed = cc }
+
+-- a block has bytes exactly where it is live
+pub live_placed : (memory : List ℕ) (block : Option Placed) → is_some (option_map (bytes_of memory) block) ≡ is_some block
+live_placed memory None = refl
+live_placed memory (Some p) = refl
 
 pub live_view : (places : List (Option Place)) → count_by is_some (map (option_map placed_of) places) ≡ count_by is_some places
 live_view [] = refl

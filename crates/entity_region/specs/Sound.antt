@@ -67,7 +67,7 @@ abbrev pub clear_units : List Bool → ℕ
 clear_units units = count_by not units
 
 -- what a region keeps belongs together
-pub record IsSound (bytes : List ℕ) (units : List Bool) (nodes : List Runs) (levels : ℕ) (places : List (Option Place)) (numbers : List ℕ) (live free : ℕ) : Type 0 where
+pub record IsSound (bytes : List ℕ) (units : List Bool) (nodes : List Runs) (levels : ℕ) (places : List (Option Place)) (numbers : List ℕ) (live free room : ℕ) : Type 0 where
   pub count : ℕ
   pub sized : length bytes ≡ 16 * count
   pub laid_out : AreLaidOut count places
@@ -76,3 +76,4 @@ pub record IsSound (bytes : List ℕ) (units : List Bool) (nodes : List Runs) (l
   pub spare : AreSpare numbers live places
   pub counted : taken places + clear_units units ≡ count
   pub free_is : free ≡ 16 * clear_units units
+  pub ordered : length places ≤ room

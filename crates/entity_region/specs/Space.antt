@@ -94,6 +94,9 @@ pub record IsTaken (old new : Space) (n number : ℕ) : Type 0 where
 pub record IsPacked (old new : Space) : Type 0 where
   pub size_stays : size new ≡ size old
   pub most_stays : most new ≡ most old
+  pub live_stays : live new ≡ live old
+  pub free_stays : free new ≡ free old
+  pub stays : (number : ℕ) → IsLive old number → IsLive new number
   pub bytes : (number : ℕ) → bytes_at new number ≡ bytes_at old number
   pub order : (i j : ℕ) (p q v w : Placed) → block_at old i ≡ Some p → block_at old j ≡ Some q → block_at new i ≡ Some v → block_at new j ≡ Some w → p.at < q.at → v.at < w.at
   pub one_hole : IsHole new (size new - free new) (free new)

@@ -3,6 +3,7 @@
 
 mod block;
 mod memory;
+mod packing;
 mod place;
 mod region;
 mod runs;
@@ -12,6 +13,3 @@ pub use block::Block;
 pub use memory::NoMemory;
 pub use place::UNIT;
 pub use region::Region;
-
-#[cfg(test)]
-mod tests;

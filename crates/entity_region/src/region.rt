@@ -2,11 +2,12 @@
 
 ghost use Rattle.std.specs.Prelude.{ℕ, List, length, ◌≡◌, ◌+◌, ◌-◌, ◌<◌, ◌≤◌, ◌%◌, ◌^◌, Some, None, IfOk, IfSome, IfNone, IsSome, replicate};
 ghost use Rattle.std.specs.Borrow.{sem};
-ghost use Rattle.entity_region.specs.Space.{size, live, most, free, rounded, bytes_at, block_at, with_block, with_bytes, AreWritten, IsLive, IsTaken, IsDisjoint, HasNoHole};
+ghost use Rattle.entity_region.specs.Space.{size, live, most, free, rounded, bytes_at, block_at, with_block, with_bytes, AreWritten, IsLive, IsTaken, IsDisjoint, IsPacked, HasNoHole};
 ghost use Rattle.entity_region.specs.Sound.{place_at, AreAll};
 
 use crate::block::Block;
 use crate::memory::NoMemory;
+use crate::packing::{Ordered, move_blocks, order_blocks};
 use crate::place::{Place, UNIT, units_of};
 use crate::runs::Runs;
 use crate::tree::{fill, first_fit, shape_for, top};
@@ -29,6 +30,8 @@ pub struct Region {
     numbers: Vec<usize>,
     live: usize,
     free: usize,
+    // Room to list all blocks while they are moved.
+    order: Vec<Ordered>,
 }
 
 impl Model for Region {
@@ -36,11 +39,12 @@ impl Model for Region {
 
     ghost Value = { Space };
 
+    ghost use Rattle.std.specs.Prelude.{length};
     ghost use Rattle.entity_region.specs.Sound.{IsSound, space_of};
 
     ghost view = { λ r. space_of r.bytes.items r.places.items };
 
-    ghost invariant = { λ r. IsSound r.bytes.items r.units.items r.nodes.items r.levels r.places.items r.numbers.items r.live r.free };
+    ghost invariant = { λ r. IsSound r.bytes.items r.units.items r.nodes.items r.levels r.places.items r.numbers.items r.live r.free (length r.order.items) };
 }
 
 impl Region {
@@ -67,6 +71,7 @@ impl Region {
             numbers: all_numbers(alloc, blocks)?,
             live: 0,
             free: bytes,
+            order: vec![in alloc; Ordered::NONE; blocks]?,
         })
     }
 
@@ -76,6 +81,13 @@ impl Region {
         ensures apart { IsDisjoint self.now }
     {
         self.live
+    }
+
+    /// The number of blocks that may be live at once.
+    pub fn most(&self) -> usize
+        ensures { result ≡ most self.now }
+    {
+        self.places.len()
     }
 
     /// The number of bytes that no live block takes.
@@ -155,6 +167,24 @@ impl Region {
         self.live -= 1;
         self.numbers[self.live] = number;
         self.free += UNIT * units;
+    }
+
+    /// Moves all blocks to the front, so that the free bytes are one hole behind them.
+    pub fn pack(&mut self)
+        ensures { IsPacked self.old self.new }
+    {
+        let listed = order_blocks(&self.places, &mut self.order);
+        let used = move_blocks(&self.order[..listed], &mut self.places, &mut self.bytes);
+        let count = self.bytes.len() / UNIT;
+        fill(self.levels, &mut self.nodes, &mut self.units, 0, used, true);
+        fill(
+            self.levels,
+            &mut self.nodes,
+            &mut self.units,
+            used,
+            count,
+            false,
+        );
     }
 }
 

@@ -39,10 +39,7 @@ use type_desc::Text;
 fn ids_of(alloc: Global, all: &[(u64, Object)]) -> Result<Ids, NoMemory>
     ensures { IfOk result (λ ids. ids ≡ loaded_ids all.now) }
 {
-    let mut ids = Vec::with_capacity(alloc, all.len())?;
-    for loaded in all {
-        ids.push(loaded.0)?;
-    }
+    let ids = all.iter().map(|loaded| loaded.0).collect(alloc)?;
     Ok(Ids::new(ids))
 }
 

@@ -52,10 +52,7 @@ fn gather_named(memory: &Memory, name: &Text, gathering: Gathering) -> Result<St
 fn ids_of(alloc: Global, records: &[Record]) -> Result<Ids, NoMemory>
     ensures { IfOk result (λ all. all ≡ ids records.now) }
 {
-    let mut all = Vec::with_capacity(alloc, records.len())?;
-    for record in records {
-        all.push(record.id)?;
-    }
+    let all = records.iter().map(|record| record.id).collect(alloc)?;
     Ok(Ids::new(all))
 }
 

@@ -1,5 +1,5 @@
 -- What a turn makes of the core that units and views stand for. Here alone the laws of the core are used.
-use Rattle.std.proofs.Common.{◌≡◌, ◌≢◌, ℕ, ◌+◌, Bool, true, false, cond, List, [], ◌∷◌, ◌++◌, length, set, sym, refl, ap, ◌∙◌, subst, arith, Option, Some, None, length-set}
+use Rattle.std.proofs.Common.{◌≡◌, ◌≢◌, ℕ, ◌+◌, ◌≤◌, ◌^◌, Bool, true, false, cond, List, [], ◌∷◌, ◌++◌, length, set, sym, refl, ap, ◌∙◌, subst, arith, Option, Some, None, length-set}
 use Rattle.std.proofs.lemmas.Bool.{eq-eqb, ne_eqb}
 use mathlib.Core.Logic.{dite}
 use mathlib.Core.Option.{some}
@@ -25,9 +25,10 @@ use Rattle.core_steps.proofs.Settled.{settled_own, settled_step}
 use Rattle.core_steps.proofs.Shards.{get_set_here, get_set_else, kind_stays, length_channels, part_here, part_else, pins_changed, step_is}
 use Rattle.core_steps.proofs.Workers.{book_worker, permits_worker, pins_worker, place_worker}
 use Rattle.shards.specs.Backed.{EventsKeep, RestsKeep, next_id_then}
-use Rattle.shards.specs.Known.{Own, Known, cycle_in, first_seen, gave, pins_with, since_then}
+use Rattle.shards.specs.Known.{Own, Known, begins, cycle_in, first_seen, gave, pins_with, since_then}
 use Rattle.shards.specs.Kept.{Assembles, DeskFits, Stands}
 use Rattle.shards.specs.Plays.{Makes, Rests, Steps}
+use Rattle.shards.proofs.Cycles.{bound_moves, bound_rests, bound_stays, cycle_then, early_then}
 use Rattle.shards.proofs.Parts.{got_at, last_other, last_own, set_cases}
 
 -- an actor that did not make the step
@@ -105,6 +106,8 @@ module _ {C : Type 0} (told : C → Told) (backs : Core → List C → Type 0) w
     pub goes : step r.core record { actor = v.own.actor; shard = k; event = e } ≡ Some (changed r.core v.own.actor k new_part h' e)
     pub next_id : (told u').next_id ≡ next_id_then r.core.book (Some e) (told u).next_id
     pub who : v.own.actor ≢ 0 → is_worker e ≡ true
+    pub cycle : (changed r.core v.own.actor k new_part h' e).monitor.cycle ≡ r.core.monitor.cycle + begins (Some e)
+    pub early : v.own.actor ≢ 0 → (n : ℕ) → r.core.monitor.cycle ≤ 2 ^ 63 + n → r.core.monitor.cycle + begins (Some e) ≤ 2 ^ 63 + n
 
   moves : (units : List C) (actors : ℕ) (views : List (Known C)) (r : Assembles told backs units actors views) (id k : ℕ) (v : Known C) (u u' : C) (h' : Hand) (e : Event)
       → get_elem? views id ≡ some v → v.live ≡ true → v.channels + 1 ≡ length units → get_elem? units k ≡ some u
@@ -130,6 +133,8 @@ module _ {C : Type 0} (told : C → Told) (backs : Core → List C → Type 0) w
         next_id = makes.next_id ∙ dite by (λ z. let d = r.desk id v at live z in ap (λ (b : Book). next_id_then b (Some e) (told u).next_id) d.book)
             (λ z. next_worker v.desk.book c.book e (told u).next_id (makes.who z));
         who = makes.who;
+        cycle = cycle_then c a k (place_of c k) makes.part makes.new_part v.own.hand h' e here made;
+        early = λ z n le. early_then c k (place_of c k) makes.part makes.new_part v.own.hand h' e n here made (makes.early z) le;
       }
 
   module _ (turns : Option Event → C → C → Type 0) where
@@ -139,11 +144,11 @@ module _ {C : Type 0} (told : C → Told) (backs : Core → List C → Type 0) w
         → Makes v k (told u) (told u') h' e → turns (Some e) u u'
         → ((j : ℕ) (d : Known C) → j ≢ id → get_elem? views j ≡ some d → d.live ≡ true → d.own.actor ≢ v.own.actor)
         → ((j : ℕ) (d : Known C) → get_elem? views j ≡ some d → d.live ≡ true → (i : ℕ) (o : Own) → get_elem? d.joined i ≡ some o → o.actor ≢ v.own.actor)
-        → Assembles told backs (set units k u') actors (set views id (gave v k (told u') h' (Some e)))
+        → Assembles told backs (set units k u') actors (set views id (gave v k (told u) (told u') h' (Some e)))
     assembles_event keep units actors views id k v u u' h' e r at live many there makes turned alone apart =
         let m = moves units actors views r id k v u u' h' e at live many there makes in let a : ℕ = v.own.actor in let c : Core = r.core in
         let s : Step = record { actor = a; shard = k; event = e } in let q : Part = m.new_part in let c' : Core = changed c a k q h' e in
-        let w : Known C = gave v k (told u') h' (Some e) in let mine = r.seats id v at live in let now : part_at c' k ≡ Some q = part_here c a k e h' m.part q m.here m.kind in
+        let w : Known C = gave v k (told u) (told u') h' (Some e) in let mine = r.seats id v at live in let now : part_at c' k ≡ Some q = part_here c a k e h' m.part q m.here m.kind in
         record {
           core = c';
           start = r.start;
@@ -167,12 +172,14 @@ module _ {C : Type 0} (told : C → Told) (backs : Core → List C → Type 0) w
                     (ap (λ (b : Book). book_after b e) (sym d.book)) (shown c a k q h' e) d.settled n
                     (ap (λ (p : Option Part). since_then v.desk.since (book_after v.desk.book e) p (Some e)) (sym m.is) ∙ there);
                 pins = ap (λ (p : Option Part). pins_with v.desk.pins k p) m.is ∙ (ap (λ (ps : List (List ℕ)). pins_then ps k q) d.pins ∙ sym (pins_changed c a k e h' q));
+                cycles = bound_moves c'.monitor.cycle c.monitor.cycle (begins (Some e)) v.desk.begun m.cycle d.cycles;
               })
               (λ i y n g l z. let d = r.desk i y g l z in let w = m.who (λ p. alone i y n g l (z ∙ sym p)) in record {
                 start = d.start;
                 book = d.book ∙ sym (book_worker c.book e w);
                 pins = d.pins ∙ sym (pins_worker c s c' w m.goes);
                 settled = λ n there. settled_step n c s c' (worker_quiet e w) r.good (d.settled n there) m.goes;
+                cycles = bound_stays c'.monitor.cycle c.monitor.cycle (begins (Some e)) y.desk.begun m.cycle (m.early (λ p. alone i y n g l (z ∙ sym p)) y.desk.begun d.cycles);
               }) f;
           backed = keep c c' s units u u' r.good m.goes r.backed (got_at units k u there) (r.shards k u there) (m.is ∙ sym now) m.next_id turned;
         }
@@ -198,8 +205,8 @@ module _ {C : Type 0} (told : C → Told) (backs : Core → List C → Type 0) w
     -- no event
     pub assembles_rest : RestsKeep told backs turns → (units : List C) (actors : ℕ) (views : List (Known C)) (id k : ℕ) (v : Known C) (u u' : C) (h' : Hand)
         → Assembles told backs units actors views → get_elem? views id ≡ some v → v.live ≡ true → get_elem? units k ≡ some u
-        → Rests v k (told u) (told u') h' → turns None u u' → Assembles told backs (set units k u') actors (set views id (gave v k (told u') h' None))
-    assembles_rest keep units actors views id k v u u' h' r at live there rests turned = let w : Known C = gave v k (told u') h' None in let mine = r.seats id v at live in record {
+        → Rests v k (told u) (told u') h' → turns None u u' → Assembles told backs (set units k u') actors (set views id (gave v k (told u) (told u') h' None))
+    assembles_rest keep units actors views id k v u u' h' r at live there rests turned = let w : Known C = gave v k (told u) (told u') h' None in let mine = r.seats id v at live in record {
       core = r.core;
       start = r.start;
       log = r.log;
@@ -213,7 +220,7 @@ module _ {C : Type 0} (told : C → Told) (backs : Core → List C → Type 0) w
       joined = λ j d f. set_cases views id j w d (λ i y. y.live ≡ true → (p : ℕ) (o : Own) → get_elem? y.joined p ≡ some o → Stands r.core r.log o)
           (λ _. r.joined id v at live) (λ i y n g l. r.joined i y g l) f;
       desk = λ j d f. set_cases views id j w d (λ i y. y.live ≡ true → y.own.actor ≡ 0 → DeskFits r.start r.core y.desk)
-          (λ _ z. let d = r.desk id v at live z in record { start = d.start; book = d.book; pins = d.pins; settled = d.settled }) (λ i y n g l. r.desk i y g l) f;
+          (λ _ z. let d = r.desk id v at live z in record { start = d.start; book = d.book; pins = d.pins; settled = d.settled; cycles = bound_rests r.core.monitor.cycle v.desk.begun d.cycles }) (λ i y n g l. r.desk i y g l) f;
       backed = keep r.core units k u u' r.good r.backed (got_at units k u there) (r.shards k u there) rests.part rests.next_id turned;
     }
 

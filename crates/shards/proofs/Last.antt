@@ -9,8 +9,8 @@ use Rattle.atomic_table.specs.Table.{State, Final, Seen}
 use Rattle.core_steps.specs.Core.{Core}
 use Rattle.core_steps.specs.Told.{Told}
 use Rattle.shards.specs.Closing.{AreClosed, HasAll}
-use Rattle.shards.specs.Known.{Known}
-use Rattle.shards.specs.Kept.{DeskFits, IsExplained, Kept}
+use Rattle.shards.specs.Known.{Ended, Known}
+use Rattle.shards.specs.Kept.{DeskFits, IsCausedThere, IsExplained, Kept}
 
 module _ {A : Type 0} where
   -- slots of which each is full with the element of a list of that number
@@ -39,25 +39,32 @@ module _ {C : Type 0} (told : C → Told) (backs : Core → List C → Type 0) w
 
   pub closes : (id : ℕ) (v : Known C) (ws : List ℕ) (xs : List (Option C)) → v.live ≡ true → v.taken ≡ None → v.own.actor ≡ 0 → HasAll v → Final (Seen (Kept told backs) id v) ws xs
       → (us : List C) × (xs ≡ map (λ (u : C). Some u) us) × AreClosed told backs v us
-  closes id v ws xs live free zeroth all (s, seen, same_words, same_len, there) = let r = seen.0 in let at = seen.1 in let mine = r.each_seat id v at live in let listed = mine.listed zeroth in let deep = r.deep in (
-    r.units,
-    full_by xs r.units (omega arith) (λ k u e. let o = r.each_shard k u e in dite (ℕ_discrete (get_or s.words k 0) 0) (λ z. there k (Some u) (o.home z))
-        (λ z. let g = (o.out z).1 in absurd (none_out id v s r live free zeroth all at (r.owner k) k g.0 u g.1 g.2 g.3))),
-    record {
-      count = sym mine.channels;
-      explained = λ k u e. subst (λ (b : Bool). IsExplained b v.desk.late (get_or v.desk.counts k 0) (told u)) (sym mine.tells)
-          (subst (λ (b : Bool). IsExplained r.all b (get_or v.desk.counts k 0) (told u)) (sym listed.2)
-          (subst (λ (l : List ℕ). IsExplained r.all r.late (get_or l k 0) (told u)) (sym listed.3) (r.each_shard k u (at_got r.units k u e)).explained));
-      core = λ said. let q = r.assembles (sym mine.tells ∙ said) in let desk = q.desk id v at live zeroth in record {
-        core = q.core;
-        log = q.log;
-        good = q.good;
-        runs = ap (λ (c : Core). Rattle.core_steps.specs.Steps.run c q.log) desk.start ∙ q.runs;
-        parts = λ k u e. q.shards k u (at_got r.units k u e);
-        own = q.seats id v at live;
-        joined = q.joined id v at live;
-        desk = subst (λ (c : Core). DeskFits c q.core v.desk) (sym desk.start) desk;
-        backed = q.backed;
-      };
-    },
-  )
+  closes id v ws xs live free zeroth all (s, seen, same_words, same_len, there) = let r = seen.0 in let at = seen.1 in let mine = r.each_seat id v at live in let listed = mine.listed zeroth in let deep = r.deep in
+      let causes : (o : Option Ended) → IsCausedThere r.all r.late r.starts (map told r.units) o → IsCausedThere v.tells v.desk.late v.desk.counts (map told r.units) o = λ o c.
+      subst (λ (b : Bool). IsCausedThere b v.desk.late v.desk.counts (map told r.units) o) (sym mine.tells)
+      (subst (λ (b : Bool). IsCausedThere r.all b v.desk.counts (map told r.units) o) (sym listed.2)
+      (subst (λ (l : List ℕ). IsCausedThere r.all r.late l (map told r.units) o) (sym listed.3) c)) in (
+        r.units,
+        full_by xs r.units (omega arith) (λ k u e. let o = r.each_shard k u e in dite (ℕ_discrete (get_or s.words k 0) 0) (λ z. there k (Some u) (o.home z))
+            (λ z. let g = (o.out z).1 in absurd (none_out id v s r live free zeroth all at (r.owner k) k g.0 u g.1 g.2 g.3))),
+        record {
+          count = sym mine.channels;
+          explained = λ k u e. subst (λ (b : Bool). IsExplained b v.desk.late (get_or v.desk.counts k 0) (told u)) (sym mine.tells)
+              (subst (λ (b : Bool). IsExplained r.all b (get_or v.desk.counts k 0) (told u)) (sym listed.2)
+              (subst (λ (l : List ℕ). IsExplained r.all r.late (get_or l k 0) (told u)) (sym listed.3) (r.each_shard k u (at_got r.units k u e)).explained));
+          ended = causes v.ended mine.ended;
+          endings = λ i e f. causes (Some e) (mine.endings i e f);
+          core = λ said. let q = r.assembles (sym mine.tells ∙ said) in let desk = q.desk id v at live zeroth in record {
+            core = q.core;
+            log = q.log;
+            good = q.good;
+            hands = q.hands ∙ sym listed.1;
+            runs = ap (λ (c : Core). Rattle.core_steps.specs.Steps.run c q.log) desk.start ∙ q.runs;
+            parts = λ k u e. q.shards k u (at_got r.units k u e);
+            own = q.seats id v at live;
+            joined = q.joined id v at live;
+            desk = subst (λ (c : Core). DeskFits c q.core v.desk) (sym desk.start) desk;
+            backed = q.backed;
+          };
+        },
+      )

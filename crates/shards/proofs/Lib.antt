@@ -1,4 +1,6 @@
 mod Put
+mod Cycles
+mod Seats
 mod Last
 mod Parts
 mod Cores

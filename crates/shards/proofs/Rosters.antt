@@ -1,7 +1,9 @@
 -- Passes that come and go keep the rule.
 use Rattle.std.proofs.Common.{◌≡◌, ◌≢◌, ◌⊎◌, ℕ, zero, suc, ◌+◌, ◌<◌, true, false, List, [], ◌∷◌, ◌++◌, map, length, set, sym, refl, ap, ◌∙◌, subst, ⊎_elim, inl, inr, arith, Option, Some, None, length-set, length-append}
 use Rattle.std.specs.Prelude.{slice_get}
+use mathlib.Core.Logic.{dite}
 use mathlib.Core.Option.{some, some-injective, some-ne-none}
+use native.Mathlib.Decide.{ℕ_discrete}
 use lib.ListN.{get_elem?}
 use Rattle.atomic_table.specs.Table.{State, Splits, Joins}
 use Rattle.atomic_table.proofs.Lists.{set_else, at_longer}
@@ -16,6 +18,7 @@ use Rattle.shards.specs.Known.{Ended, Own, Known, dealt, joined_with, newcomer, 
 use Rattle.shards.specs.Kept.{Assembles, DeskFits, IsCausedThere, IsSeatOf, Kept, Stands}
 use Rattle.shards.proofs.Put.{put, put_here, put_else}
 use Rattle.shards.proofs.Parts.{out_stays, set_cases}
+use Rattle.shards.proofs.Seats.{seat_joined, seat_more, seat_new, seat_stays}
 
 module _ {A : Type 0} where
   at_end : (l : List A) (a b : A) (j : ℕ) → get_elem? (l ++ a ∷ []) j ≡ some b → (get_elem? l j ≡ some b) ⊎ ((j ≡ length l) × (a ≡ b))
@@ -76,7 +79,7 @@ module _ {C : Type 0} (told : C → Told) (backs : Core → List C → Type 0) w
             (λ (t : (j ≡ length (set views id w)) × (fresh ≡ d)). λ _. subst (λ (y : Known C). (q : ℕ) (o : Own) → get_elem? y.joined q ≡ some o → Stands (with_actor c) r.log o) t.1 (λ q o f. absurd (some-ne-none o (sym f))))
             (at_end (set views id w) fresh d j e);
         desk = λ j d e. ⊎_elim (λ (t : get_elem? (set views id w) j ≡ some d). set_cases views id j w d (λ i y. y.live ≡ true → y.own.actor ≡ 0 → DeskFits (with_actor r.start) (with_actor c) y.desk)
-            (λ _ z. let d = r.desk id v at live z in record { start = ap with_actor d.start; book = d.book; pins = d.pins; settled = λ b f. settled_actor b c (d.settled b f) })
+            (λ _ z. let d = r.desk id v at live z in record { start = ap with_actor d.start; book = d.book; pins = d.pins; settled = λ b f. settled_actor b c (d.settled b f); cycles = d.cycles })
             (λ i y m g l z. absurd (alone i y m g l z)) t)
             (λ (t : (j ≡ length (set views id w)) × (fresh ≡ d)). λ _ z. let z1 = ap (λ (y : Known C). y.own.actor) t.1 in absurd (omega arith)) (at_end (set views id w) fresh d j e);
         backed = keep c units r.good r.backed;
@@ -103,6 +106,8 @@ module _ {C : Type 0} (told : C → Told) (backs : Core → List C → Type 0) w
           out = λ z. let g = o.out z in let f = out_stays s.views id v w (r.owner k) k u at (λ e. (live, e)) g.1 in (g.0, (f.0, at_longer (set s.views id w) (fresh ∷ []) (r.owner k) f.0 f.1, f.2, f.3));
           explained = o.explained;
         };
+        each_actor = λ a below. dite (ℕ_discrete a v.desk.made) (λ y. seat_new (set s.views id w) fresh a refl (sym y))
+            (λ y. seat_more (set s.views id w) fresh a (seat_stays s.views id v w at live refl refl a (r.each_actor a (omega arith))));
         each_seat = λ j d e. ⊎_elim
             (λ (t : get_elem? (set s.views id w) j ≡ some d). set_cases s.views id j w d (λ i y. y.live ≡ true → IsSeatOf told backs r.units r.starts (r.actors + 1) r.all r.late r.owner keeper' s.words i y)
             (λ _. record {
@@ -192,6 +197,7 @@ module _ {C : Type 0} (told : C → Told) (backs : Core → List C → Type 0) w
           out = λ z. let g = o.out z in (g.0, out_stays vs other x spent (r.owner k) k u there (λ e. let bad : None ≡ Some (k, u) = sym free ∙ e in cc) (out_stays s.views id v w (r.owner k) k u at (λ e. (live, e)) g.1));
           explained = o.explained;
         };
+        each_actor = λ a below. seat_joined s.views id other v x apart at live there0 a (r.each_actor a below);
         each_seat = λ j d f. set_cases vs other j spent d (λ i y. y.live ≡ true → IsSeatOf told backs r.units r.starts r.actors r.all r.late r.owner keeper' s.words i y) (λ (e : false ≡ true). cc)
             (λ j d n f. set_cases s.views id j w d (λ i y. i ≢ other → y.live ≡ true → IsSeatOf told backs r.units r.starts r.actors r.all r.late r.owner keeper' s.words i y)
             (λ n _. record {

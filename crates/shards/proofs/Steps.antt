@@ -18,6 +18,7 @@ use Rattle.shards.specs.Kept.{Assembles, IsAtHomeOrOut, IsCausedThere, IsSeatOf,
 use Rattle.shards.specs.Plays.{Goes, Makes, Returns, Steps, left, tried}
 use Rattle.shards.proofs.Put.{put, put_here, put_else}
 use Rattle.shards.proofs.Parts.{Out, ended_kept, ended_stays, explained_after, explained_on, is_below, lists_mine, lists_others, out_stays, set_cases, set_there, some_at, tell_still, told_at}
+use Rattle.shards.proofs.Seats.{seat_stays}
 use Rattle.shards.proofs.Cores.{assembles_event, assembles_rest, assembles_view, steps}
 
 abbrev get_word : List ℕ → ℕ → ℕ
@@ -56,10 +57,10 @@ module _ {C : Type 0} (told : C → Told) (backs : Core → List C → Type 0) w
 
   -- a turn that is given back, but for the core
   shifts : (s : State (Option C) (Known C)) (r : Rule s) (id k : ℕ) (v : Known C) (u u' : C) (h' : Hand) (o : Option Event) → get_elem? s.views id ≡ some v → v.live ≡ true → v.taken ≡ Some (k, u)
-      → Returns v (told u) (told u') h' → (r.all ≡ true → Assembles told backs (set r.units k u') r.actors (set s.views id (gave v k (told u') h' o)))
-      → Rule record { words = set s.words k 0; homes = set s.homes k (some (Some u')); views = set s.views id (gave v k (told u') h' o) }
+      → Returns v (told u) (told u') h' → (r.all ≡ true → Assembles told backs (set r.units k u') r.actors (set s.views id (gave v k (told u) (told u') h' o)))
+      → Rule record { words = set s.words k 0; homes = set s.homes k (some (Some u')); views = set s.views id (gave v k (told u) (told u') h' o) }
   shifts s r id k v u u' h' o at live has returns assembles =
-      let mine = r.each_seat id v at live in let held = mine.taken k u has in let here = held.2 in let w : Known C = gave v k (told u') h' o in
+      let mine = r.each_seat id v at live in let held = mine.taken k u has in let here = held.2 in let w : Known C = gave v k (told u) (told u') h' o in
       let d1 = r.deep in let d2 = r.wide in let under = is_below r.units k u here in let inside : k < length s.homes = omega arith in let in_words : k < length s.words = omega arith in
       let now = get_or-set_same s.words k 0 0 in_words in let a : ℕ = v.own.actor in let late' : Bool = late_then a r.late h' in let more : r.late ≡ true → late' ≡ true = late_more a r.late h' in
       let why = explained_after r.all r.late late' (get_or r.starts k 0) v (told u) (told u') h' returns mine.tells more (λ z e. late_now a r.late h' z e) (r.each_shard k u here).explained in
@@ -81,6 +82,7 @@ module _ {C : Type 0} (told : C → Told) (backs : Core → List C → Type 0) w
               out = λ z. let b = q.out (λ p. z (same ∙ p)) in (same ∙ b.0, out_stays s.views id v w (r.owner i) i y at (λ p. let z2 : Some (k, u) ≡ Some (i, y) = sym has ∙ p in let z3 : (k, u) ≡ (i, y) = cc in absurd (n (ap (λ (c : ℕ × C). c.0) (sym z3)))) b.1);
               explained = explained_on r.all r.late late' (get_or r.starts i 0) (told y) more q.explained;
             }) f;
+        each_actor = λ a below. seat_stays s.views id v w at live refl refl a (r.each_actor a below);
         each_seat = λ j d f. set_cases s.views id j w d (λ i y. y.live ≡ true → IsSeatOf told backs (set r.units k u') r.starts r.actors r.all late' r.owner r.keeper (set s.words k 0) i y)
             (λ _. record {
               keeps = mine.keeps;
@@ -125,12 +127,12 @@ module _ {C : Type 0} (told : C → Told) (backs : Core → List C → Type 0) w
 
   module _ (turns : Option Event → C → C → Type 0) (events_keep : EventsKeep told backs turns) (rests_keep : RestsKeep told backs turns) where
     gives_core : (s : State (Option C) (Known C)) (r : Rule s) (id k : ℕ) (v : Known C) (u u' : C) (h' : Hand) (moves : Bool) (asks : Event → Type 0) (o : Option Event) → get_elem? s.views id ≡ some v → v.live ≡ true → v.taken ≡ Some (k, u)
-        → Goes told turns v k u u' h' moves asks o → r.all ≡ true → Assembles told backs (set r.units k u') r.actors (set s.views id (gave v k (told u') h' o))
+        → Goes told turns v k u u' h' moves asks o → r.all ≡ true → Assembles told backs (set r.units k u') r.actors (set s.views id (gave v k (told u) (told u') h' o))
     gives_core s r id k v u u' h' true asks o at live has goes all = let mine = r.each_seat id v at live in let here = (mine.taken k u has).2 in let g = goes (mine.tells ∙ all) in
-        subst (λ (x : Option Event). Assembles told backs (set r.units k u') r.actors (set s.views id (gave v k (told u') h' x))) (sym g.1)
+        subst (λ (x : Option Event). Assembles told backs (set r.units k u') r.actors (set s.views id (gave v k (told u) (told u') h' x))) (sym g.1)
         (assembles_event told backs turns events_keep r.units r.actors s.views id k v u u' h' g.0 (r.assembles all) at live mine.channels here g.3 g.4 (alone s r id v at live) (apart s r id v at live))
     gives_core s r id k v u u' h' false asks o at live has goes all = let mine = r.each_seat id v at live in let here = (mine.taken k u has).2 in let g = goes.1 (mine.tells ∙ all) in
-        subst (λ (x : Option Event). Assembles told backs (set r.units k u') r.actors (set s.views id (gave v k (told u') h' x))) (sym goes.0)
+        subst (λ (x : Option Event). Assembles told backs (set r.units k u') r.actors (set s.views id (gave v k (told u) (told u') h' x))) (sym goes.0)
         (assembles_rest told backs turns rests_keep r.units r.actors s.views id k v u u' h' (r.assembles all) at live here g.0 g.1)
 
     steps_so : (s : State (Option C) (Known C)) (r : Rule s) (id k : ℕ) (v : Known C) (u u' : C) (h' : Hand) (moves : Bool) (asks : Event → Type 0) (o : Option Event) → get_elem? s.views id ≡ some v → v.live ≡ true → v.taken ≡ Some (k, u)
@@ -141,7 +143,7 @@ module _ {C : Type 0} (told : C → Told) (backs : Core → List C → Type 0) w
 
     pub leaves : (slots id : ℕ) (me : M) (k : ℕ) (u u' : C) (h' : Hand) (moves : Bool) (asks : Event → Type 0) (o : Option Event) → me.0.live ≡ true → me.0.taken ≡ Some (k, u) → me.1 ≡ (k, Some u') ∷ [] → Returns me.0 (told u) (told u') h'
         → Goes told turns me.0 k u u' h' moves asks o → Allows Rule slots id me k (λ _. 0) (left told turns h' moves asks (step slots k 0 0 none) me)
-    leaves slots id me k u u' h' moves asks o live has hold returns goes s r deep at _ = let w : Known C = gave me.0 k (told u') h' o in (
+    leaves slots id me k u u' h' moves asks o live has hold returns goes s r deep at _ = let w : Known C = gave me.0 k (told u) (told u') h' o in (
       w,
       gives,
       tt,
@@ -150,15 +152,15 @@ module _ {C : Type 0} (told : C → Told) (backs : Core → List C → Type 0) w
       λ x y has2 hold2. let z1 : ◌≡◌ {A = List (ℕ × Option C)} ((k, Some u') ∷ []) ((k, Some y) ∷ []) = sym hold ∙ hold2 in let z3 : ◌≡◌ {A = ℕ × Option C} (k, Some u') (k, Some y) = cc in
           let z4 : Some u' ≡ Some y = ap (λ (q : ℕ × Option C). q.1) z3 in let z2 : u' ≡ y = cc in let y1 : Some (k, u) ≡ Some (k, x) = sym has ∙ has2 in let y2 : (k, u) ≡ (k, x) = cc in let y3 : u ≡ x = ap (λ (q : ℕ × C). q.1) y2 in
           let goes2 : Goes told turns me.0 k x y h' moves asks o = subst (λ (q : C × C). Goes told turns me.0 k q.0 q.1 h' moves asks o) (λ i. (y3 i, z2 i)) goes in
-          (o, goes2, (λ i. (gave me.0 k (told (z2 i)) h' o, rest (hold i))), steps_so s r id k me.0 x y h' moves asks o at live has2 goes2),
+          (o, goes2, (λ i. (gave me.0 k (told (y3 i)) (told (z2 i)) h' o, rest (hold i))), steps_so s r id k me.0 x y h' moves asks o at live has2 goes2),
     )
 
     pub after_left : (v : Known C) (slots k n : ℕ) (u u' : C) (h' : Hand) (moves : Bool) (asks : Event → Type 0) (me me' : M) → me.0 ≡ v → me.1 ≡ (k, Some u') ∷ [] → v.taken ≡ Some (k, u) → left told turns h' moves asks (step slots k 0 0 none) me n me'
-        → (o : Option Event) × Goes told turns v k u u' h' moves asks o × (me' ≡ (gave v k (told u') h' o, [])) × (v.tells ≡ true → (e : Event) → o ≡ Some e → Steps v k (told u) (told u') h' e)
+        → (o : Option Event) × Goes told turns v k u u' h' moves asks o × (me' ≡ (gave v k (told u) (told u') h' o, [])) × (v.tells ≡ true → (e : Event) → o ≡ Some e → Steps v k (told u) (told u') h' e)
     after_left v slots k n u u' h' moves asks me me' same hold has saw = let got = saw u u' (ap (λ (z : Known C). z.taken) same ∙ has) hold in (
       got.0,
       subst (λ (z : Known C). Goes told turns z k u u' h' moves asks got.0) same got.1,
-      got.2 ∙ (λ i. (gave (same i) k (told u') h' got.0, [])),
+      got.2 ∙ (λ i. (gave (same i) k (told u) (told u') h' got.0, [])),
       subst (λ (z : Known C). z.tells ≡ true → (e : Event) → got.0 ≡ Some e → Steps z k (told u) (told u') h' e) same got.3,
     )
 
@@ -214,6 +216,7 @@ module _ {C : Type 0} (told : C → Told) (backs : Core → List C → Type 0) w
                 );
                 explained = o.explained;
               });
+          each_actor = λ a below. seat_stays s.views id v w at live refl refl a (r.each_actor a below);
           each_seat = λ j d f. set_cases s.views id j w d (λ i y. y.live ≡ true → IsSeatOf told backs r.units r.starts r.actors r.all r.late (put r.owner k id) r.keeper (set s.words k 1) i y)
               (λ _. record {
                 keeps = mine.keeps;
@@ -279,6 +282,7 @@ module _ {C : Type 0} (told : C → Told) (backs : Core → List C → Type 0) w
             out = λ z. let g = o.out z in (g.0, out_stays s.views id v w (r.owner j) j y at (λ e. (live, e)) g.1);
             explained = o.explained;
           };
+          each_actor = λ a below. seat_stays s.views id v w at live refl refl a (r.each_actor a below);
           each_seat = λ j d f. set_cases s.views id j w d (λ i y. y.live ≡ true → IsSeatOf told backs r.units r.starts r.actors r.all r.late r.owner r.keeper s.words i y)
               (λ _. record { keeps = mine.keeps; there = mine.there; joined = mine.joined; taken = mine.taken; listed = mine.listed; ended = mine.ended; endings = mine.endings; stop = mine.stop; tells = mine.tells; channels = mine.channels }) (λ i y n g l. r.each_seat i y g l) f;
           assembles = same w refl refl refl;

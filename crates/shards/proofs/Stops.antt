@@ -11,6 +11,7 @@ use Rattle.shards.specs.Known.{Known, Stop, saw_stop, stopping}
 use Rattle.shards.specs.Kept.{IsSeatOf, Kept}
 use Rattle.shards.specs.Plays.{looked, stopped}
 use Rattle.shards.proofs.Parts.{is_below, out_stays, set_cases}
+use Rattle.shards.proofs.Seats.{seat_stays}
 use Rattle.shards.proofs.Cores.{assembles_view}
 
 module _ {C : Type 0} (told : C → Told) (backs : Core → List C → Type 0) where
@@ -42,6 +43,7 @@ module _ {C : Type 0} (told : C → Told) (backs : Core → List C → Type 0) w
           out = λ z. let g = o.out (λ p. z (same ∙ p)) in (same ∙ g.0, out_stays s.views id v w (r.owner k) k u at (λ e. (live, e)) g.1);
           explained = o.explained;
         };
+        each_actor = λ a below. seat_stays s.views id v w at live refl refl a (r.each_actor a below);
         each_seat = λ j d e. set_cases s.views id j w d (λ i y. y.live ≡ true → IsSeatOf told backs r.units r.starts r.actors r.all r.late r.owner r.keeper ws i y)
             (λ _. record {
               keeps = mine.keeps;

@@ -1,5 +1,5 @@
 -- The table as it is made.
-use Rattle.std.proofs.Common.{◌≡◌, ℕ, zero, suc, ◌+◌, ◌-◌, ◌<◌, Bool, true, false, List, [], ◌∷◌, map, length, get_or, sym, refl, ap, ◌∙◌, subst, ⊎_elim, arith, Option, Some}
+use Rattle.std.proofs.Common.{◌≡◌, ℕ, zero, suc, ◌+◌, ◌-◌, ◌<◌, Bool, true, false, List, [], ◌∷◌, map, length, get_or, sym, refl, ap, ◌∙◌, subst, ⊎_elim, inl, lit≤, arith, Option, Some}
 use Rattle.std.specs.Prelude.{slice_get}
 use Rattle.std.proofs.lemmas.List.{length-map}
 use Rattle.std.proofs.lemmas.List.FromFn.{length-map-range_with_len}
@@ -67,7 +67,7 @@ module _ {C : Type 0} (told : C → Told) (backs : Core → List C → Type 0) (
 
       desk : (j : ℕ) (v : Known C) → get_elem? (view ∷ []) j ≡ some v → DeskFits (start_in (map told units) next_id) (start_in (map told units) next_id) v.desk
       desk zero v e = subst (λ (x : Known C). DeskFits (start_in (map told units) next_id) (start_in (map told units) next_id) x.desk) (some-injective view v e)
-          record { start = refl; book = refl; pins = refl; settled = λ b f. cc }
+          record { start = refl; book = refl; pins = refl; settled = λ b f. cc; cycles = lit≤ tt }
       desk (suc j) v e = absurd (some-ne-none v (sym e))
 
   pub opens : (ws : List ℕ) → 1 < length units → ((k : ℕ) (u : C) → slice_get units k ≡ Some u → IsFresh (told u)) → (all_tell (map told units) ≡ true → AreStart told backs units next_id)
@@ -89,6 +89,7 @@ module _ {C : Type 0} (told : C → Told) (backs : Core → List C → Type 0) (
           out = λ z. absurd (z (blank k));
           explained = fresh_explained (all_tell (map told units)) (get_or (map (λ (u : C). (told u).faults) units) k 0) (told u) (count_at (λ (u : C). (told u).faults) units k u e) (fresh k u (got_at units k u e));
         };
+        each_actor = λ a below. record { seat = 0; view = view; there = refl; live = refl; has = inl (omega arith) };
         each_seat = λ j v e live. seat j v e;
         assembles = λ all. assembles_start many (are all);
       }

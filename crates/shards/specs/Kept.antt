@@ -1,5 +1,5 @@
 -- The rule: at each moment the units at home and in views, the hands and the book are one core, which is good, and which the steps that were made led to.
-use Rattle.std.specs.Prelude.{◌≡◌, ◌≢◌, ◌⊎◌, ℕ, suc, ◌+◌, ◌<◌, ◌≤◌, Bool, true, false, List, map, length, slice_get, slice_index, Option, Some, None}
+use Rattle.std.specs.Prelude.{◌≡◌, ◌≢◌, ◌⊎◌, ℕ, suc, ◌+◌, ◌<◌, ◌≤◌, ◌^◌, Bool, true, false, List, map, length, slice_get, slice_index, Option, Some, None}
 use mathlib.Core.Option.{some, none}
 use mathlib.Core.Option as maybe
 use lib.ListN.{get_elem?}
@@ -42,12 +42,26 @@ pub record Stands (c : Core) (log : List Step) (o : Own) : Type 0 where
   pub hand : slice_get c.hands o.actor ≡ Some o.hand
   pub mine : steps_by o.actor log ≡ o.mine
 
--- what actor 0 knows is so; from the first cycle that it saw after its last store or change of a pin the core is settled
+-- what actor 0 knows is so; from the first cycle that it saw after its last store or change of a pin the core is settled; and the
+-- cycle's number is at most 2^63 and one more for each cycle that it began
 pub record DeskFits (from c : Core) (d : Desk) : Type 0 where
   pub start : d.start ≡ from
   pub book : d.book ≡ c.book
   pub pins : d.pins ≡ pins_of c.channels
   pub settled : (b : ℕ) → d.since ≡ Some b → IsSettledFrom b c
+  pub cycles : c.monitor.cycle ≤ 2 ^ 63 + d.begun
+
+-- a view has the actor, as its own or as one that was joined
+abbrev pub HasActor : {C : Type 0} → Known C → ℕ → Type 0
+HasActor v a = (v.own.actor ≡ a) ⊎ ((i : ℕ) × (o : Own) × (get_elem? v.joined i ≡ some o) × (o.actor ≡ a))
+
+-- a live view has it
+pub record HasSeat {C : Type 0} (views : List (Known C)) (a : ℕ) : Type 0 where
+  pub seat : ℕ
+  pub view : Known C
+  pub there : get_elem? views seat ≡ some view
+  pub live : view.live ≡ true
+  pub has : HasActor view a
 
 module _ {C : Type 0} (told : C → Told) (backs : Core → List C → Type 0) where
   -- what units and live views stand for
@@ -102,5 +116,6 @@ module _ {C : Type 0} (told : C → Told) (backs : Core → List C → Type 0) w
     pub wide : length s.words ≡ length s.homes + 1
     pub deep : length units ≡ length s.homes
     pub each_shard : (k : ℕ) (u : C) → get_elem? units k ≡ some u → IsAtHomeOrOut all late (slice_index starts k) u s.words s.homes s.views owner k
+    pub each_actor : (a : ℕ) → a < actors → HasSeat s.views a
     pub each_seat : (j : ℕ) (v : Known C) → get_elem? s.views j ≡ some v → v.live ≡ true → IsSeatOf units starts actors all late owner keeper s.words j v
     pub assembles : all ≡ true → Assembles units actors s.views

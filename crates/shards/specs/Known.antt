@@ -14,6 +14,7 @@ use Rattle.core_steps.specs.Events.{is_quiet}
 use Rattle.graph_model.specs.declared.entity.StoreOp.{StoreOp}
 use Rattle.core_steps.specs.declared.state.Book.{Book}
 use Rattle.core_steps.specs.declared.event.Event.{Event}
+use Rattle.core_steps.specs.declared.event.Event.TheVariants.{BeginCycle}
 use Rattle.core_steps.specs.declared.event.Step.{Step}
 use Rattle.core_steps.specs.Rows.{Part, Channel, Monitor}
 use Rattle.core_steps.specs.Steps.{book_after, pins_then, start, with_actor}
@@ -28,8 +29,9 @@ pub record Own : Type 0 where
   pub mine : List Step
 
 -- what only actor 0 knows: the start, the book, the pins of each channel, what is listed of each unit, how many actors there are; how often
--- each unit's disk had failed at the start; whether its hand had a store of a number above 2^63 open behind a turn; the first cycle that it saw after its last store or change of a pin; and, by channel, the last
--- cycle of which a turn of it left that channel Idle
+-- each unit's disk had failed at the start; whether its hand had a store of a number above 2^63 open behind a turn; how many cycles it began;
+-- the first cycle that it saw after its last store or change of a pin; and, by channel, the last cycle of which a turn of it found or left
+-- that channel Idle
 pub record Desk : Type 0 where
   pub start : Core
   pub book : Book
@@ -38,6 +40,7 @@ pub record Desk : Type 0 where
   pub made : ℕ
   pub counts : List ℕ
   pub late : Bool
+  pub begun : ℕ
   pub since : Option ℕ
   pub idle : List (Option ℕ)
 
@@ -101,7 +104,7 @@ abbrev pub no_monitor : CoreMonitor
 no_monitor = record { format = 0; cycle = 0; closed = true; begun = []; swept = []; pending = 0; stores_begun = 0; stores_ended = 0 }
 
 abbrev pub no_desk : Desk
-no_desk = record { start = record { channels = []; monitor = no_monitor; hands = []; book = no_book }; book = no_book; pins = []; lists = []; made = 0; counts = []; late = false; since = None; idle = [] }
+no_desk = record { start = record { channels = []; monitor = no_monitor; hands = []; book = no_book }; book = no_book; pins = []; lists = []; made = 0; counts = []; late = false; begun = 0; since = None; idle = [] }
 
 module _ {C : Type 0} where
   -- a new pass of an actor with a new hand
@@ -167,6 +170,7 @@ session_pass ts next_id = record (newcomer (all_tell ts) (length ts - 1) 0) {
     made = 1;
     counts = map (λ (t : Told). t.faults) ts;
     late = false;
+    begun = 0;
     since = None;
     idle = replicate (length ts - 1) None;
   };
@@ -225,29 +229,35 @@ abbrev pub since_then : Option ℕ → Book → Option Part → Option Event →
 since_then since b p None = since
 since_then since b p (Some e) = cond (is_quiet e) (first_seen since (cycle_in b.opened p)) None
 
+-- how many cycles an event begins
+abbrev pub begins : Option Event → ℕ
+begins (Some BeginCycle) = 1
+begins _ = 0
+
 abbrev pub idle_in : List (Option ℕ) → ℕ → Phase → List (Option ℕ)
 idle_in l k (Idle c) = set l k (Some c)
 idle_in l k (Marking c) = l
 idle_in l k (Sweeping c left) = l
 
--- the cycles of which channels were left Idle, with shard k left as this part
+-- the cycles of which channels were Idle, with shard k seen as this part
 abbrev pub idle_then : List (Option ℕ) → ℕ → Option Part → List (Option ℕ)
 idle_then l k None = l
 idle_then l k (Some (Channel x)) = idle_in l k x.phase
 idle_then l k (Some (Monitor m)) = l
 
--- the desk once shard k came back, by an event or by none
-abbrev pub desk_then : Desk → ℕ → Told → Hand → Option Event → Desk
-desk_then d k t h o = record {
+-- the desk once shard k came back, from what it told to what it tells, by an event or by none
+abbrev pub desk_then : Desk → ℕ → Told → Told → Hand → Option Event → Desk
+desk_then d k t t' h o = record {
   start = d.start;
   book = book_then d.book o;
-  pins = pins_after d.pins k t.part o;
-  lists = set d.lists k (listed t);
+  pins = pins_after d.pins k t'.part o;
+  lists = set d.lists k (listed t');
   made = d.made;
   counts = d.counts;
   late = d.late || is_late h;
-  since = since_then d.since (book_then d.book o) t.part o;
-  idle = idle_then d.idle k t.part;
+  begun = d.begun + begins o;
+  since = since_then d.since (book_then d.book o) t'.part o;
+  idle = idle_then (idle_then d.idle k t.part) k t'.part;
 }
 
 abbrev pub own_ending : Option Ended → List Ended
@@ -263,13 +273,13 @@ module _ {C : Type 0} where
   abbrev pub refused : Known C → ℕ → Known C
   refused v k = record v { tries = tried_more v.tries k 1 }
 
-  -- the turn of shard k went back, with a unit that tells this and this hand, by an event or by none
-  abbrev pub gave : Known C → ℕ → Told → Hand → Option Event → Known C
-  gave v k t h o = record v {
+  -- the turn of shard k went back, with a unit that told t and tells t', and this hand, by an event or by none
+  abbrev pub gave : Known C → ℕ → Told → Told → Hand → Option Event → Known C
+  gave v k t t' h o = record v {
     own = record { actor = v.own.actor; hand = h; mine = steps_then v.own k o };
     taken = None;
-    desk = desk_then v.desk k t h o;
-    ended = ended_then v.ended k t.ending;
+    desk = desk_then v.desk k t t' h o;
+    ended = ended_then v.ended k t'.ending;
   }
 
   -- one more pass was split off

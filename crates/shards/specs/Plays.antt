@@ -92,7 +92,7 @@ module _ {C : Type 0} (told : C → Told) (turns : Option Event → C → C → 
   -- a turn given back
   abbrev pub left : Hand → Bool → (Event → Type 0) → Step (Option C) → Me (Option C) (Known C) → ℕ → Me (Option C) (Known C) → Type 0
   left h moves asks st m n m' = (u u' : C) → m.0.taken ≡ Some (st.word, u) → m.1 ≡ (st.word, Some u') ∷ []
-      → (o : Option Event) × Goes m.0 st.word u u' h moves asks o × (m' ≡ (gave m.0 st.word (told u') h o, []))
+      → (o : Option Event) × Goes m.0 st.word u u' h moves asks o × (m' ≡ (gave m.0 st.word (told u) (told u') h o, []))
       × (m.0.tells ≡ true → (e : Event) → o ≡ Some e → Steps m.0 st.word (told u) (told u') h e)
 
 module _ {C : Type 0} where

@@ -82,3 +82,19 @@ impl<C> Pass<C> {
         self.actor
     }
 }
+
+impl<C> Turn<C> {
+    /// The number of the shard whose turn it is.
+    pub fn shard(&self) -> u32
+        ensures { result ≡ self.now.shard }
+    {
+        self.shard
+    }
+
+    /// The number of the actor that has it.
+    pub fn actor(&self) -> u32
+        ensures { result ≡ self.now.known.own.actor }
+    {
+        self.actor
+    }
+}

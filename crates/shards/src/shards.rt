@@ -11,6 +11,7 @@ use std::alloc::Global;
 use std::marker::Model;
 use std::snapshot::Snapshot;
 use std::sync::{Mutex, Wait};
+use std::thread;
 
 /// The rule of the shards.
 pub struct Assembled {}
@@ -129,7 +130,10 @@ impl<C: BackedUnit> Shards<C> {
         for _ in rt.forever() {
             match self.try_enter(pass, shard) {
                 Ok(held) => return held,
-                Err(busy) => pass = busy.pass,
+                Err(busy) => {
+                    thread::yield_now();
+                    pass = busy.pass;
+                }
             }
         }
         unreachable!()

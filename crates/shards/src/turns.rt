@@ -28,7 +28,7 @@ fn give<C: BackedUnit, G: Given>(
     requires returns { Returns turn.known (C.told turn.was) (C.told unit) G.hand }
     requires event { (o : Option Event) × Goes C.told C.turns turn.known turn.shard turn.was unit G.hand G.moves G.asks o }
     ensures table { result.table ≡ shards.now.table }
-    ensures event { (o : Option Event) × Goes C.told C.turns turn.known turn.shard turn.was unit G.hand G.moves G.asks o × (result.known ≡ gave turn.known turn.shard (C.told unit) G.hand o)
+    ensures event { (o : Option Event) × Goes C.told C.turns turn.known turn.shard turn.was unit G.hand G.moves G.asks o × (result.known ≡ gave turn.known turn.shard (C.told turn.was) (C.told unit) G.hand o)
         × (turn.known.tells ≡ true → (e : Event) → o ≡ Some e → Steps turn.known turn.shard (C.told turn.was) (C.told unit) G.hand e) }
 {
     let Turn {
@@ -63,7 +63,7 @@ impl<C: BackedUnit> Held<C> {
         requires returns { Returns self.turn.known (C.told self.turn.was) (C.told self.unit) self.hand }
         requires event { self.turn.known.tells ≡ true → (e : Event) × (kind_of e ≡ kind) × Makes self.turn.known self.turn.shard (C.told self.turn.was) (C.told self.unit) self.hand e × C.turns (Some e) self.turn.was self.unit }
         ensures table { result.table ≡ shards.now.table }
-        ensures event { (o : Option Event) × (result.known ≡ gave self.turn.known self.turn.shard (C.told self.unit) self.hand o)
+        ensures event { (o : Option Event) × (result.known ≡ gave self.turn.known self.turn.shard (C.told self.turn.was) (C.told self.unit) self.hand o)
             × (self.turn.known.tells ≡ true → (e : Event) × (o ≡ Some e) × (kind_of e ≡ kind) × Makes self.turn.known self.turn.shard (C.told self.turn.was) (C.told self.unit) self.hand e
             × Steps self.turn.known self.turn.shard (C.told self.turn.was) (C.told self.unit) self.hand e) }
     {
@@ -78,7 +78,7 @@ impl<C: BackedUnit> Held<C> {
         requires returns { Returns self.turn.known (C.told self.turn.was) (C.told self.unit) self.hand }
         requires event { self.turn.known.tells ≡ true → Makes self.turn.known self.turn.shard (C.told self.turn.was) (C.told self.unit) self.hand (StoreBegin op.now) × C.turns (Some (StoreBegin op.now)) self.turn.was self.unit }
         ensures table { result.table ≡ shards.now.table }
-        ensures known { (o : Option Event) × (result.known ≡ gave self.turn.known self.turn.shard (C.told self.unit) self.hand o) × (self.turn.known.tells ≡ true → (o ≡ Some (StoreBegin op.now)) × Steps self.turn.known self.turn.shard (C.told self.turn.was) (C.told self.unit) self.hand (StoreBegin op.now)) }
+        ensures known { (o : Option Event) × (result.known ≡ gave self.turn.known self.turn.shard (C.told self.turn.was) (C.told self.unit) self.hand o) × (self.turn.known.tells ≡ true → (o ≡ Some (StoreBegin op.now)) × Steps self.turn.known self.turn.shard (C.told self.turn.was) (C.told self.unit) self.hand (StoreBegin op.now)) }
     {
         let Held { unit, hand, turn } = self;
         give::<C, Brand>(shards, turn, unit, hand, None, Some(op))
@@ -90,7 +90,7 @@ impl<C: BackedUnit> Held<C> {
         requires returns { Returns self.turn.known (C.told self.turn.was) (C.told self.unit) self.hand }
         requires same { self.turn.known.tells ≡ true → Rests self.turn.known self.turn.shard (C.told self.turn.was) (C.told self.unit) self.hand × C.turns None self.turn.was self.unit }
         ensures table { result.table ≡ shards.now.table }
-        ensures known { result.known ≡ gave self.turn.known self.turn.shard (C.told self.unit) self.hand None }
+        ensures known { result.known ≡ gave self.turn.known self.turn.shard (C.told self.turn.was) (C.told self.unit) self.hand None }
     {
         let Held { unit, hand, turn } = self;
         give::<C, Brand>(shards, turn, unit, hand, None, None)

@@ -12,8 +12,6 @@ mod std_source;
 mod store_folder;
 mod streams;
 mod tally;
-#[cfg(test)]
-mod tests;
 
 pub use answers::FirstRefusal;
 pub use failure::{Failure, HostFault, StreamFailure};

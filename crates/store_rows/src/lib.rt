@@ -2,6 +2,8 @@
 #![tactic(auto)]
 
 #[cfg(test)]
+mod adapters;
+#[cfg(test)]
 mod answering;
 #[cfg(test)]
 mod asks;
@@ -33,3 +35,5 @@ mod runs;
 mod stores;
 #[cfg(test)]
 mod tests;
+#[cfg(test)]
+mod words_told;

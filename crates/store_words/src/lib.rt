@@ -16,6 +16,3 @@ pub use help::{Shown, asked};
 pub use plan::{Plan, WordSizes};
 pub use verb::Verb;
 pub use word::Word;
-
-#[cfg(test)]
-mod tests;

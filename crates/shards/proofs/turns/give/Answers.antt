@@ -23,11 +23,11 @@ swap-requires g c = let C : Type 0 = g.row.C.Denot in let turn = c.turn.inside i
     )
 
 abbrev got : (g : given.Over) (c : goal.After-swap g) → (o : Option Event) × Goes g.C.CoreUnit.told g.C.BackedUnit.turns c.args.turn.known c.args.turn.shard c.args.turn.was c.args.unit g.G.Given.hand g.G.Given.moves g.G.Given.asks o
-    × (c.swap.new.seat.me ≡ (gave c.args.turn.known c.args.turn.shard (g.C.CoreUnit.told c.args.unit) g.G.Given.hand o, []))
+    × (c.swap.new.seat.me ≡ (gave c.args.turn.known c.args.turn.shard (g.C.CoreUnit.told c.args.turn.was) (g.C.CoreUnit.told c.args.unit) g.G.Given.hand o, []))
     × (c.args.turn.known.tells ≡ true → (e : Event) → o ≡ Some e → Steps c.args.turn.known c.args.turn.shard (g.C.CoreUnit.told c.args.turn.was) (g.C.CoreUnit.told c.args.unit) g.G.Given.hand e)
 got g c = let C : Type 0 = g.row.C.Denot in let turn = c.turn.inside in let inv = c.turn.invariant in let now = c.exchange-old.ensures.3 in let told = g.C.CoreUnit.told in let turns = g.C.BackedUnit.turns in
     subst (λ (t : TurnState C). (o : Option Event) × Goes told turns t.known t.shard t.was c.args.unit g.G.Given.hand g.G.Given.moves g.G.Given.asks o
-    × (c.swap.new.seat.me ≡ (gave t.known t.shard (told c.args.unit) g.G.Given.hand o, []))
+    × (c.swap.new.seat.me ≡ (gave t.known t.shard (told t.was) (told c.args.unit) g.G.Given.hand o, []))
     × (t.known.tells ≡ true → (e : Event) → o ≡ Some e → Steps t.known t.shard (told t.was) (told c.args.unit) g.G.Given.hand e)) c.turn.view_is
     (after_left told g.C.BackedUnit.backs turns g.met.C.BackedUnit.events_keep g.met.C.BackedUnit.rests_keep turn.seat.me.0 c.shards.inside.table.shared.table_id.slots turn.shard c.swap.result turn.was.value c.args.unit
     g.G.Given.hand g.G.Given.moves g.G.Given.asks c.exchange-old.new.seat.me c.swap.new.seat.me (ap (λ m. m.0) now) (ap (λ m. m.1) now ∙ ap (λ cs. (turn.shard, Some c.args.unit) ∷ rest cs) inv.1) inv.2 c.swap.ensures.2)
@@ -35,7 +35,7 @@ got g c = let C : Type 0 = g.row.C.Denot in let turn = c.turn.inside in let inv 
 pub into_badge-requires : goal.into_badge-requires
 into_badge-requires g c = ap (λ m. m.1) (got g c).2
 
-abbrev known : (g : given.Over) (c : goal.After-into_badge g) → known_in c.into_badge.result.views ≡ gave c.args.turn.known c.args.turn.shard (g.C.CoreUnit.told c.args.unit) g.G.Given.hand (got g c.before).0
+abbrev known : (g : given.Over) (c : goal.After-into_badge g) → known_in c.into_badge.result.views ≡ gave c.args.turn.known c.args.turn.shard (g.C.CoreUnit.told c.args.turn.was) (g.C.CoreUnit.told c.args.unit) g.G.Given.hand (got g c.before).0
 known g c = ap known_in c.into_badge.ensures.2 ∙ ap (λ m. m.0) (got g c.before).2
 
 pub invariant_of-result : goal.invariant_of-result

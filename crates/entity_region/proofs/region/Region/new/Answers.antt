@@ -19,8 +19,8 @@ invariant_of-result c =
     let whole : 16 * (c.args.bytes / 16) ≡ c.args.bytes = omega arith in
     let size = sym c.in_ok-vec.field-0.ok.0 ∙ c.in_ok-vec.ensures.len in
     let sized : length c.in_ok-vec.field-0.items ≡ 16 * (c.args.bytes / 16) = omega arith in
-    rw (units, nodes) (subst (λ n. IsSound c.in_ok-vec.field-0.items c.fill.new.units c.fill.new.nodes c.shape_for-shape.result.levels c.in_ok-no_places.field-0.items c.in_ok-all_numbers.field-0.items 0 n) whole
-    (sound_new _ _ _ _ _ _ _ _ _ _ sized c.shape_for-shape.ensures.enough before c.fill.ensures.tree c.fill.ensures.filled c.in_ok-no_places.ensures c.in_ok-all_numbers.ensures))
+    rw (units, nodes) (subst (λ n. IsSound c.in_ok-vec.field-0.items c.fill.new.units c.fill.new.nodes c.shape_for-shape.result.levels c.in_ok-no_places.field-0.items c.in_ok-all_numbers.field-0.items 0 n (length c.in_ok-vec-2.field-0.items)) whole
+    (sound_new _ _ _ _ _ _ _ _ _ _ _ sized c.shape_for-shape.ensures.enough before c.fill.ensures.tree c.fill.ensures.filled c.in_ok-no_places.ensures c.in_ok-all_numbers.ensures (sym c.in_ok-vec-2.field-0.ok.0 ∙ c.in_ok-vec-2.ensures.len)))
 
 pub returns-clause-none : goal.returns-clause-none
 returns-clause-none c = ap (map (option_map placed_of)) c.in_ok-no_places.ensures ∙ none_view c.args.blocks

@@ -1,8 +1,8 @@
-//! One test an adapter.
-use crate::{FirstRefusal, HostFault, StdSink, StdSource, StoreFolder};
+//! One test an adapter of the host.
 use std::alloc::AllocError;
 use std::io::{ErrorKind, Read, Write};
 use std::{env, fs, io, process};
+use store_host::{FirstRefusal, HostFault, StdSink, StdSource, StoreFolder};
 use store_io::{Disk, DiskFailed, Sink, SinkFailed, Source, SourceFailed};
 
 #[derive(Debug, Drop)]

@@ -1,9 +1,8 @@
-//! Words of each command, words that spell none, and what is shown.
-use crate::help::{Shown, asked};
-use crate::words::plan;
-use crate::{Verb, WordsFault};
+//! Words of each command, and what is shown.
 use std::alloc::Global;
 use std::process::Abort;
+use store_words::words::plan;
+use store_words::{Shown, Verb, asked};
 
 /// The words of a line, cut at each space.
 fn words_of(rt: &impl Abort, alloc: Global, line: &str) -> Vec<String> {
@@ -61,34 +60,6 @@ fn words_are_told(rt: HostRuntime) {
     .expect(&rt, "generate");
     let shown = format!(in rt.alloc(); "{given:?}").expect(&rt, "memory");
     assert!(rt; shown.as_str() == "Generate { lines: 1000000, number: 2147483647 }");
-}
-
-#[test]
-fn other_words_are_refused(rt: HostRuntime) {
-    let cases = [
-        "run d 3",
-        "run",
-        "run d 02",
-        "work d 2 0",
-        "run -d 2",
-        "",
-        "walk d 2",
-        "run  2",
-        "run d 2 0 64",
-        "run d 2 65 64 750",
-        "run d 2 0 64 1001",
-        "run d 2 0 1073741825 750",
-        "work d 2 17",
-        "check d 2 2",
-        "export d",
-        "generate 1000001 7",
-        "generate 7 2147483648",
-        "trial d 2 7",
-    ];
-    for line in cases {
-        let given = plan(rt.alloc(), words_of(&rt, rt.alloc(), line).as_slice());
-        assert!(rt; matches!(&given, Err(WordsFault::Words)));
-    }
 }
 
 #[test]

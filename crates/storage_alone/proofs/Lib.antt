@@ -1,0 +1,14 @@
+pub mod Frames
+pub mod Events
+pub mod HeldIds
+pub mod Pinned
+pub mod Steadily
+pub mod Held
+pub mod Looked
+pub mod Ties
+pub mod TypesTied
+pub mod Together
+pub mod HoldAlls
+pub mod Opened
+pub mod PartIds
+pub mod LookEnds
