@@ -1,0 +1,89 @@
+-- How a block for a content is found, and what stands once it was kept.
+use Rattle.std.proofs.Common.{◌≡◌, ◌≢◌, ℕ, ◌+◌, ◌-◌, ◌*◌, ◌/◌, ◌<◌, ◌≤◌, ◌⊎◌, List, [], ◌∷◌, length, Option, Some, None, refl, sym, ap, subst, ◌∙◌, arith, inl, inr, length-append, length-drop}
+use Rattle.std.specs.Option.{option_map_or}
+use Rattle.std.proofs.lemmas.List.{length-take, get_or-set_same}
+use Rattle.entity_region.specs.Space.{Space, size, most, live, free, rounded, block_at, written, with_block, with_bytes, Placed, AreWritten, HasNoHole, IsPacked, IsTaken}
+use Rattle.entity_cache.specs.declared.kept.Kept.{Kept}
+use Rattle.entity_cache.specs.declared.kept.Kept.TheVariants.{Yes, NoHole, NoMemory}
+use Rattle.entity_cache.specs.Cached.{block_of, content_of, IsHeld, ForeignStay, StaysOrLeaves, HaveLeft, IsOneHole}
+use Rattle.entity_cache.specs.Keeping.{HasRoom, HasKept}
+use Rattle.entity_cache.proofs.HeldLemmas.{left_none, left_packed, left_again, left_again_given, held_kept, content_kept, content_others, foreign_kept, foreign_again, stays_again, none_stays, hole_for}
+
+length_written : (xs w : List ℕ) (at : ℕ) → at + length w ≤ length xs → length (written xs at w) ≡ length xs
+length_written xs w at inside = simp (length-take, length-append, length-drop) (omega arith)
+
+pub room_first : (region taken : Space) (cache : List (ℕ × ℕ)) (n number : ℕ) → IsHeld region cache → IsTaken region taken n number → HasRoom region cache taken cache n number
+room_first region taken cache n number held is = record { before = region; left = left_none region cache held; taken = is }
+
+module _ (region given packed : Space) (cache after : List (ℕ × ℕ)) (n : ℕ) (left : HaveLeft region cache given after) (packs : IsPacked given packed) where
+  pub left_then_packed : HaveLeft region cache packed after
+  left_then_packed = left_again region given packed cache after after left (left_packed given packed after left.held packs)
+
+  pub room_packed : (taken : Space) (number : ℕ) → IsTaken packed taken n number → HasRoom region cache taken after n number
+  room_packed taken number is = record { before = packed; left = left_then_packed; taken = is }
+
+  pub empty_packed : (wanted : ℕ) → wanted ≡ rounded n → (wanted ≤ free given) ⊎ (after ≡ []) → HasNoHole packed (rounded n) → after ≡ []
+  empty_packed wanted is (inr empty) none = empty
+  empty_packed wanted is (inl enough) none = let stays = packs.free_stays in absurd (hole_for packed (rounded n) packs.one_hole (omega arith) none)
+
+  pub room_stays : live region < most region → live packed < most packed
+  room_stays room =
+      let count = left_then_packed.foreign.count_stays in
+      let same = left_then_packed.foreign.most_stays in
+      let fewer = left_then_packed.fewer in
+      omega arith
+
+module _ (before taken written : Space) (cache after : List (ℕ × ℕ)) (id number : ℕ) (bytes : List ℕ) (held : IsHeld before cache) (is : IsTaken before taken (length bytes) number)
+    (put : AreWritten taken written number bytes) (blocks : written.blocks ≡ taken.blocks) (sized : size written ≡ size taken) (new : block_of cache id ≡ None) where
+  pub put_yes : after ≡ (id, number) ∷ cache → HasKept before cache written after id bytes Yes
+  put_yes after_is = subst (λ c. HasKept before cache written c id bytes Yes) (sym after_is) (record {
+    held = held_kept before taken written cache id (length bytes) number bytes held is put blocks sized new;
+    kept = λ yes. content_kept before taken written cache id (length bytes) number bytes held is put blocks sized new;
+    unkept = λ other. absurd (other refl);
+    others = λ other differs. inl (content_others before taken written cache id (length bytes) number bytes held is put blocks sized new other differs);
+    foreign = foreign_kept before taken written cache id (length bytes) number bytes held is put blocks sized new;
+    hole = λ same. absurd cc;
+  })
+
+  pub put_no : after ≡ cache → HasKept before cache (with_block written number None) after id bytes NoMemory
+  put_no after_is =
+      let left = left_again_given before taken written cache id (length bytes) number bytes held is put blocks sized new in
+      subst (λ c. HasKept before cache (with_block written number None) c id bytes NoMemory) (sym after_is) (record {
+        held = left.held;
+        kept = λ yes. absurd cc;
+        unkept = λ other. new;
+        others = λ other differs. left.all other;
+        foreign = left.foreign;
+        hole = λ same. absurd cc;
+      })
+
+-- bytes that are written into a block leave the size of the region
+pub sized_written : (before taken : Space) (n number : ℕ) (bytes : List ℕ) → IsTaken before taken n number → length bytes ≡ n → size (with_bytes taken number bytes) ≡ size taken
+sized_written before taken n number bytes is len =
+    let p : Placed = record { at = is.at; len = n } in
+    let there : block_at taken number ≡ Some p = ap (λ s. block_at s number) is.becomes ∙ get_or-set_same before.blocks number (Some p) None is.below in
+    let begins : option_map_or (λ q. q.at) (block_at taken number) 0 ≡ is.at = ap (λ o. option_map_or (λ q. q.at) o 0) there in
+    let same : size taken ≡ size before = ap size is.becomes in
+    let inside = is.hole.inside in
+    ap (λ at. length (written taken.memory at bytes)) begins ∙ length_written taken.memory bytes is.at (omega arith)
+
+-- ---- the whole of a call: an id is forgotten, others leave for room, and a block comes
+
+module _ (region bare roomy taken : Space) (cache less fewer last : List (ℕ × ℕ)) (id n number : ℕ) (gone : block_of less id ≡ None)
+    (others : (other : ℕ) → other ≢ id → content_of bare less other ≡ content_of region cache other) (foreign : ForeignStay region cache bare less)
+    (left : HaveLeft bare less roomy fewer) where
+  pub none_made : block_of fewer id ≡ None
+  none_made = none_stays bare roomy less fewer id left gone
+
+  module _ (after : Space) (now : HaveLeft roomy fewer after last) where
+    all_left : HaveLeft bare less after last
+    all_left = left_again bare roomy after less fewer last left now
+
+    pub none_last : block_of last id ≡ None
+    none_last = none_stays bare after less last id all_left gone
+
+    pub others_last : (other : ℕ) → other ≢ id → StaysOrLeaves region cache after last other
+    others_last other differs = stays_again region bare after cache less last other (inl (others other differs)) (all_left.all other)
+
+    pub foreign_last : ForeignStay region cache after last
+    foreign_last = foreign_again region bare after cache less last foreign all_left.foreign
