@@ -69,7 +69,7 @@ sized_written before taken n number bytes is len =
 
 -- ---- the whole of a call: an id is forgotten, others leave for room, and a block comes
 
-module _ (region bare roomy taken : Space) (cache less fewer last : List (ℕ × ℕ)) (id n number : ℕ) (gone : block_of less id ≡ None)
+module _ (region bare roomy : Space) (cache less fewer last : List (ℕ × ℕ)) (id : ℕ) (gone : block_of less id ≡ None)
     (others : (other : ℕ) → other ≢ id → content_of bare less other ≡ content_of region cache other) (foreign : ForeignStay region cache bare less)
     (left : HaveLeft bare less roomy fewer) where
   pub none_made : block_of fewer id ≡ None
