@@ -34,9 +34,10 @@ impl Model for EntityCache {
 }
 
 impl EntityCache {
-    /// A cache of nothing.
+    /// A cache of nothing, for any region.
     pub fn new(alloc: Global) -> Result<EntityCache, NoMemory>
-        ensures { IfOk result (λ cache. cache ≡ []) }
+        ensures empty { IfOk result (λ cache. cache ≡ []) }
+        ensures held { IfOk result (λ cache. (region : Space) → IsHeld region cache) }
     {
         Ok(EntityCache {
             blocks: ById::new(alloc)?,
@@ -51,14 +52,15 @@ impl EntityCache {
         self.blocks.len()
     }
 
-    /// The block that holds the content of an id. `None` exactly where the id is not cached.
-    pub fn peek(&self, _region: &Region, id: u64) -> Option<&Block>
-        requires { IsHeld _region.now self.now }
-        ensures block { option_copied result ≡ block_of self.now id }
-        ensures live { IfSome result (λ block. IsLive _region.now block.now) }
-        ensures content { IfSome result (λ block. content_of _region.now self.now id ≡ bytes_at _region.now block.now) }
+    /// The content of an id, lent out of the region without a copy. `None` exactly where the id is not cached.
+    pub fn content<'r>(&self, region: &'r Region, id: u64) -> Option<&'r [u8]>
+        requires { IsHeld region.now self.now }
+        ensures { option_copied result ≡ content_of region.now self.now id }
     {
-        self.blocks.peek(id)
+        match self.blocks.peek(id) {
+            Some(block) => Some(region.bytes(block)),
+            None => None,
+        }
     }
 
     /// Notes that an id was used, so that others are given up before it.
