@@ -1,15 +1,15 @@
 -- What a cache and its region are once an id has left, the region was packed, or one more content is kept.
-use Rattle.std.proofs.Common.{◌≡◌, ◌≢◌, ℕ, ◌+◌, ◌-◌, ◌<◌, ◌≤◌, ◌⊎◌, true, false, cond, List, [], ◌∷◌, length, set, map, Option, Some, None, refl, sym, ap, subst, ◌∙◌, arith, inl, inr, length-set}
+use Rattle.std.proofs.Common.{◌≡◌, ◌≢◌, ℕ, ◌+◌, ◌-◌, ◌<◌, ◌≤◌, true, false, cond, List, [], ◌∷◌, length, set, take, Option, Some, None, refl, sym, ap, subst, ◌∙◌, arith, inl, inr, length-set}
 use Rattle.std.specs.Prelude.{is_some}
 use Rattle.std.specs.List.{sum_by}
 use Rattle.std.specs.Option.{option_map, option_and_then}
 use Rattle.std.proofs.lemmas.Bool.{cases_lt, cases_eq}
-use Rattle.std.proofs.lemmas.List.{get_or-set_same, get_or-set_other, get_or_past}
+use Rattle.std.proofs.lemmas.List.{get_or-set_same, get_or-set_other, get_or_past, take_all, take-take}
 use Rattle.std.proofs.lemmas.List.Sums.{sum_by-set}
-use Rattle.entity_region.specs.Space.{Space, Placed, most, live, block_at, bytes_at, bytes_of, with_block, with_bytes, size, free, AreWritten, HasNoHole, IsLive, IsPacked, IsTaken}
+use Rattle.entity_region.specs.Space.{Space, Placed, most, live, block_at, bytes_at, bytes_of, with_block, size, free, AreWritten, HasNoHole, IsHole, IsLive, IsPacked, IsTaken}
 use Rattle.entity_cache.specs.Contents.{OthersStay}
 use Rattle.entity_cache.proofs.Lookups.{found_front, others_front}
-use Rattle.entity_cache.specs.Cached.{block_of, content_of, IsHeld, IsForeign, ForeignStay, StaysOrLeaves, HaveLeft, IsOneHole}
+use Rattle.entity_cache.specs.Cached.{block_of, content_of, IsHeld, ForeignStay, StaysOrLeaves, HaveLeft, LastUsedStay, IsOneHole}
 
 -- ---- blocks of a region
 
@@ -107,8 +107,8 @@ module _ (region : Space) (cache after : List (ℕ × ℕ)) (id number : ℕ) (h
     count_stays = let less = ended_count region number (held.live id number is) in omega arith;
   }
 
-  pub left_one : HaveLeft region cache (with_block region number None) after
-  left_one = record {
+  pub left_one : LastUsedStay cache after → HaveLeft region cache (with_block region number None) after
+  left_one last = record {
     held = held_left;
     all = λ other. elim (cases_eq other id) [
       | inl same ↦ inr (ap (option_and_then (bytes_at (with_block region number None))) (subst (λ k. block_of after k ≡ None) (sym same) gone))
@@ -116,6 +116,7 @@ module _ (region : Space) (cache after : List (ℕ × ℕ)) (id number : ℕ) (h
     ];
     foreign = foreign_left;
     fewer = omega arith;
+    last_used = last;
   }
 
 pub some_entry : (cache : List (ℕ × ℕ)) (id number : ℕ) → block_of cache id ≡ Some number → 1 ≤ length cache
@@ -140,8 +141,11 @@ foreign_same region cache = record {
 pub foreign_none : (region : Space) (cache after : List (ℕ × ℕ)) → after ≡ cache → ForeignStay region cache region after
 foreign_none region cache after same = subst (ForeignStay region cache region) (sym same) (foreign_same region cache)
 
+all_last : (cache : List (ℕ × ℕ)) → LastUsedStay cache cache
+all_last cache = sym (take_all (length cache) cache (omega arith))
+
 pub left_none : (region : Space) (cache : List (ℕ × ℕ)) → IsHeld region cache → HaveLeft region cache region cache
-left_none region cache held = record { held = held; all = λ id. inl refl; foreign = foreign_same region cache; fewer = omega arith }
+left_none region cache held = record { held = held; all = λ id. inl refl; foreign = foreign_same region cache; fewer = omega arith; last_used = all_last cache }
 
 -- the same blocks under ids that are no others
 content_same : (old new : Space) (cache after : List (ℕ × ℕ)) (id : ℕ) → block_of after id ≡ block_of cache id → ((n : ℕ) → bytes_at new n ≡ bytes_at old n) → content_of new after id ≡ content_of old cache id
@@ -163,6 +167,7 @@ left_packed region packed cache held is = record {
     count_stays = let same = is.live_stays in omega arith;
   };
   fewer = omega arith;
+  last_used = all_last cache;
 }
 
 -- ---- one after another
@@ -190,6 +195,7 @@ left_again r s t a b c first second = record {
   all = λ id. stays_again r s t a b c id (first.all id) (second.all id);
   foreign = foreign_again r s t a b c first.foreign second.foreign;
   fewer = let once = first.fewer in let twice = second.fewer in omega arith;
+  last_used = second.last_used ∙ ap (take (length c)) first.last_used ∙ take-take (length c) (length b) a second.fewer;
 }
 
 -- an id that is not cached is not cached once others have left
@@ -328,27 +334,42 @@ module _ (before taken written : Space) (cache : List (ℕ × ℕ)) (id n number
   }
 
   -- a block that is given back again
+  bytes_again : (m : ℕ) → bytes_at (with_block written number None) m ≡ bytes_at before m
+  bytes_again m = elim (cases_eq m number) [
+    | inl same ↦
+        subst (λ k. bytes_at (with_block written number None) k ≡ bytes_at before k) (sym same) (ap (option_map (bytes_of written.memory)) (ended_here written number) ∙ sym (ap (option_map (bytes_of before.memory)) is.fresh))
+    | inr differs ↦ bytes_other written number m None (λ same. differs (sym same)) ∙ bytes_same m differs
+  ]
+
+  pub content_again_given : (other : ℕ) → content_of (with_block written number None) cache other ≡ content_of before cache other
+  content_again_given other = content_same before (with_block written number None) cache cache other refl bytes_again
+
   pub left_again_given : HaveLeft before cache (with_block written number None) cache
-  left_again_given =
-      let all_same : (m : ℕ) → bytes_at (with_block written number None) m ≡ bytes_at before m = λ m. elim (cases_eq m number) [
-        | inl same ↦
-            subst (λ k. bytes_at (with_block written number None) k ≡ bytes_at before k) (sym same) (ap (option_map (bytes_of written.memory)) (ended_here written number) ∙ sym (ap (option_map (bytes_of before.memory)) is.fresh))
-        | inr differs ↦ bytes_other written number m None (λ same. differs (sym same)) ∙ bytes_same m differs
-      ] in
-      record {
-        held = record { live = λ other m other_is. live_by_bytes before (with_block written number None) m (all_same m) (held.live other m other_is); distinct = held.distinct };
-        all = λ other. inl (content_same before (with_block written number None) cache cache other refl all_same);
-        foreign = record {
-          size_stays = sized ∙ ap size is.becomes;
-          most_stays = length-set written.blocks number None ∙ ap length blocks ∙ ap most is.becomes ∙ length-set before.blocks number (Some (record { at = is.at; len = n }));
-          bytes_stay = λ m foreign lives. (foreign, all_same m);
-          no_more = λ m foreign lives. (foreign, live_by_bytes (with_block written number None) before m (sym (all_same m)) lives);
-          count_stays = let less = ended_count written number lives_now in let more = count_now in omega arith;
-        };
-        fewer = omega arith;
-      }
+  left_again_given = record {
+    held = record { live = λ other m other_is. live_by_bytes before (with_block written number None) m (bytes_again m) (held.live other m other_is); distinct = held.distinct };
+    all = λ other. inl (content_again_given other);
+    foreign = record {
+      size_stays = sized ∙ ap size is.becomes;
+      most_stays = length-set written.blocks number None ∙ ap length blocks ∙ ap most is.becomes ∙ length-set before.blocks number (Some (record { at = is.at; len = n }));
+      bytes_stay = λ m foreign lives. (foreign, bytes_again m);
+      no_more = λ m foreign lives. (foreign, live_by_bytes (with_block written number None) before m (sym (bytes_again m)) lives);
+      count_stays = let less = ended_count written number lives_now in let more = count_now in omega arith;
+    };
+    fewer = omega arith;
+    last_used = all_last cache;
+  }
 
 -- ---- holes
+
+-- a block that ends leaves every hole
+pub hole_stays : (region : Space) (number at n : ℕ) → IsHole region at n → IsHole (with_block region number None) at n
+hole_stays region number at n hole = record {
+  inside = hole.inside;
+  clear = λ m p is. elim (cases_eq m number) [
+    | inl same ↦ let none : block_at (with_block region number None) m ≡ None = subst (λ k. block_at (with_block region number None) k ≡ None) (sym same) (ended_here region number) in absurd cc
+    | inr differs ↦ hole.clear m p (sym (block_other region number m None (λ same. differs (sym same))) ∙ is)
+  ];
+}
 
 -- the free bytes in one hole hold whatever is no larger
 pub hole_for : (region : Space) (wanted : ℕ) → IsOneHole region → wanted ≤ free region → HasNoHole region wanted → ⊥

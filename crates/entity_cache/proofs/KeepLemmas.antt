@@ -1,13 +1,14 @@
 -- How a block for a content is found, and what stands once it was kept.
-use Rattle.std.proofs.Common.{◌≡◌, ◌≢◌, ℕ, ◌+◌, ◌-◌, ◌*◌, ◌/◌, ◌<◌, ◌≤◌, ◌⊎◌, List, [], ◌∷◌, length, Option, Some, None, refl, sym, ap, subst, ◌∙◌, arith, inl, inr, length-append, length-drop}
+use Rattle.std.proofs.Common.{◌≡◌, ◌≢◌, ℕ, ◌+◌, ◌<◌, ◌≤◌, ◌⊎◌, List, [], ◌∷◌, length, take, Some, None, refl, sym, ap, subst, ◌∙◌, arith, inl, inr, length-append, length-drop}
 use Rattle.std.specs.Option.{option_map_or}
 use Rattle.std.proofs.lemmas.List.{length-take, get_or-set_same}
 use Rattle.entity_region.specs.Space.{Space, size, most, live, free, rounded, block_at, written, with_block, with_bytes, Placed, AreWritten, HasNoHole, IsPacked, IsTaken}
-use Rattle.entity_cache.specs.declared.kept.Kept.{Kept}
-use Rattle.entity_cache.specs.declared.kept.Kept.TheVariants.{Yes, NoHole, NoMemory}
-use Rattle.entity_cache.specs.Cached.{block_of, content_of, IsHeld, ForeignStay, StaysOrLeaves, HaveLeft, IsOneHole}
+use Rattle.entity_cache.specs.declared.kept.Kept.TheVariants.{Yes, NoMemory}
+use Rattle.entity_cache.specs.Contents.{most_entries}
+use Rattle.entity_cache.specs.Cached.{block_of, content_of, without, IsHeld, ForeignStay, StaysOrLeaves, HaveLeft, LastUsedStay, IsRoom}
 use Rattle.entity_cache.specs.Keeping.{HasRoom, HasKept}
-use Rattle.entity_cache.proofs.HeldLemmas.{left_none, left_packed, left_again, left_again_given, held_kept, content_kept, content_others, foreign_kept, foreign_again, stays_again, none_stays, hole_for}
+use Rattle.entity_cache.proofs.Lookups.{without_front, without_fewer, removed_none as without_none}
+use Rattle.entity_cache.proofs.HeldLemmas.{left_none, left_packed, left_again, left_again_given, content_again_given, held_kept, content_kept, content_others, foreign_kept, foreign_again, stays_again, none_stays, hole_for}
 
 length_written : (xs w : List ℕ) (at : ℕ) → at + length w ≤ length xs → length (written xs at w) ≡ length xs
 length_written xs w at inside = simp (length-take, length-append, length-drop) (omega arith)
@@ -35,12 +36,17 @@ module _ (region given packed : Space) (cache after : List (ℕ × ℕ)) (n : �
 
 module _ (before taken written : Space) (cache after : List (ℕ × ℕ)) (id number : ℕ) (bytes : List ℕ) (held : IsHeld before cache) (is : IsTaken before taken (length bytes) number)
     (put : AreWritten taken written number bytes) (blocks : written.blocks ≡ taken.blocks) (sized : size written ≡ size taken) (new : block_of cache id ≡ None) where
+  front : without id ((id, number) ∷ cache) ≡ cache
+  front = without_front cache id number
+
   pub put_yes : after ≡ (id, number) ∷ cache → HasKept before cache written after id bytes Yes
   put_yes after_is = subst (λ c. HasKept before cache written c id bytes Yes) (sym after_is) (record {
     held = held_kept before taken written cache id (length bytes) number bytes held is put blocks sized new;
     kept = λ yes. content_kept before taken written cache id (length bytes) number bytes held is put blocks sized new;
     unkept = λ other. absurd (other refl);
-    others = λ other differs. inl (content_others before taken written cache id (length bytes) number bytes held is put blocks sized new other differs);
+    newest = λ yes. record { number = number; is = ap (λ c. (id, number) ∷ c) (sym front) };
+    rest = front;
+    others = λ other differs. content_others before taken written cache id (length bytes) number bytes held is put blocks sized new other differs;
     foreign = foreign_kept before taken written cache id (length bytes) number bytes held is put blocks sized new;
     hole = λ same. absurd cc;
   })
@@ -52,7 +58,9 @@ module _ (before taken written : Space) (cache after : List (ℕ × ℕ)) (id nu
         held = left.held;
         kept = λ yes. absurd cc;
         unkept = λ other. new;
-        others = λ other differs. left.all other;
+        newest = λ yes. absurd cc;
+        rest = without_none cache id new;
+        others = λ other differs. content_again_given before taken written cache id (length bytes) number bytes held is put blocks sized new other;
         foreign = left.foreign;
         hole = λ same. absurd cc;
       })
@@ -71,10 +79,7 @@ sized_written before taken n number bytes is len =
 
 module _ (region bare roomy : Space) (cache less fewer last : List (ℕ × ℕ)) (id : ℕ) (gone : block_of less id ≡ None)
     (others : (other : ℕ) → other ≢ id → content_of bare less other ≡ content_of region cache other) (foreign : ForeignStay region cache bare less)
-    (left : HaveLeft bare less roomy fewer) where
-  pub none_made : block_of fewer id ≡ None
-  none_made = none_stays bare roomy less fewer id left gone
-
+    (order : less ≡ without id cache) (left : HaveLeft bare less roomy fewer) where
   module _ (after : Space) (now : HaveLeft roomy fewer after last) where
     all_left : HaveLeft bare less after last
     all_left = left_again bare roomy after less fewer last left now
@@ -87,3 +92,23 @@ module _ (region bare roomy : Space) (cache less fewer last : List (ℕ × ℕ))
 
     pub foreign_last : ForeignStay region cache after last
     foreign_last = foreign_again region bare after cache less last foreign all_left.foreign
+
+    pub order_last : LastUsedStay (without id cache) last
+    order_last = all_left.last_used ∙ ap (take (length last)) order
+
+    pub order_bare : LastUsedStay (without id cache) (without id last)
+    order_bare = subst (LastUsedStay (without id cache)) (sym (without_none last id none_last)) order_last
+
+    pub order_kept : (kept : List (ℕ × ℕ)) → without id kept ≡ last → LastUsedStay (without id cache) (without id kept)
+    order_kept kept rest = subst (LastUsedStay (without id cache)) (sym rest) order_last
+
+-- where there is room for a content, there is room once its id was forgotten
+module _ (region bare : Space) (cache less : List (ℕ × ℕ)) (id n : ℕ) (order : less ≡ without id cache) (foreign : ForeignStay region cache bare less) (room : IsRoom region cache n) where
+  shorter : length less ≤ length cache
+  shorter = subst (λ es. length es ≤ length cache) (sym order) (without_fewer cache id)
+
+  pub entries_left : length less < most_entries
+  entries_left = let few = room.entries in let less = shorter in omega arith
+
+  pub blocks_left : live bare < most bare
+  blocks_left = let few = room.blocks in let count = foreign.count_stays in let same = foreign.most_stays in let less = shorter in omega arith

@@ -1,5 +1,5 @@
 -- What a look-up by id finds once a pair was put in, taken out or moved to the front.
-use Rattle.std.proofs.Common.{◌≡◌, ◌≢◌, ℕ, suc, ◌+◌, ◌-◌, ◌<◌, true, false, cond, List, [], ◌∷◌, length, take, Option, Some, None, Result, Ok, Err, IfSome, IfNone, OnOk, nat_eq, refl, sym, ap, subst, ◌∙◌, arith, inl, inr}
+use Rattle.std.proofs.Common.{◌≡◌, ◌≢◌, ℕ, suc, ◌+◌, ◌-◌, ◌<◌, ◌≤◌, true, false, cond, List, [], ◌∷◌, length, take, Option, Some, None, Result, Ok, Err, IfSome, IfNone, OnOk, nat_eq, refl, sym, ap, subst, ◌∙◌, arith, inl, inr}
 use Rattle.std.specs.List.{AllByRecursion, IsDistinct}
 use Rattle.std.specs.Map.{keys_of, lookup_entry, remove_entry}
 use Rattle.std.specs.Option.{option_map_or}
@@ -160,6 +160,16 @@ module _ {C : Type 0} where
   removed_none (f ∷ fs) id none = elim (cases_Bool (nat_eq id f.0)) [
     | inl here ↦ let some : Some f.1 ≡ None = rw here at none in absurd cc
     | inr there ↦ rw there (ap (λ es. f ∷ es) (removed_none fs id (rw there at none)))
+  ]
+
+  pub without_front : (contents : List (ℕ × C)) (id : ℕ) (content : C) → remove_entry (nat_eq id) ((id, content) ∷ contents) ≡ contents
+  without_front contents id content = rw (same_id id) refl
+
+  pub without_fewer : (contents : List (ℕ × C)) (id : ℕ) → length (remove_entry (nat_eq id) contents) ≤ length contents
+  without_fewer [] id = omega arith
+  without_fewer (f ∷ fs) id = elim (cases_Bool (nat_eq id f.0)) [
+    | inl here ↦ rw here (omega arith)
+    | inr there ↦ rw there (let rest = without_fewer fs id in omega arith)
   ]
 
   pub length_promoted : (contents : List (ℕ × C)) (id : ℕ) → length (promoted (nat_eq id) contents) ≡ length contents

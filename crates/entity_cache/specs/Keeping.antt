@@ -3,7 +3,7 @@ use Rattle.std.specs.Prelude.{◌≡◌, ◌≢◌, ℕ, List, Some, None}
 use Rattle.entity_region.specs.Space.{Space, IsTaken}
 use Rattle.entity_cache.specs.declared.kept.Kept.{Kept}
 use Rattle.entity_cache.specs.declared.kept.Kept.TheVariants.{Yes, NoHole}
-use Rattle.entity_cache.specs.Cached.{block_of, content_of, IsHeld, ForeignStay, StaysOrLeaves, HaveLeft}
+use Rattle.entity_cache.specs.Cached.{block_of, content_of, without, IsNewest, IsHeld, ForeignStay, HaveLeft}
 
 -- a block of n bytes came, once some ids had left
 pub record HasRoom (old_region : Space) (old_cache : List (ℕ × ℕ)) (region : Space) (cache : List (ℕ × ℕ)) (n number : ℕ) : Type 0 where
@@ -21,6 +21,8 @@ pub record HasKept (old_region : Space) (old_cache : List (ℕ × ℕ)) (region 
   pub held : IsHeld region cache
   pub kept : result ≡ Yes → content_of region cache id ≡ Some bytes
   pub unkept : result ≢ Yes → block_of cache id ≡ None
-  pub others : (other : ℕ) → other ≢ id → StaysOrLeaves old_region old_cache region cache other
+  pub newest : result ≡ Yes → IsNewest cache id
+  pub rest : without id cache ≡ old_cache
+  pub others : (other : ℕ) → other ≢ id → content_of region cache other ≡ content_of old_region old_cache other
   pub foreign : ForeignStay old_region old_cache region cache
   pub hole : result ≢ NoHole

@@ -1,6 +1,7 @@
 //! Contents of any type by ids, in the order of their use.
 
-ghost use Rattle.std.specs.Prelude.{◌≡◌, ◌+◌, ◌-◌, ◌<◌, ◌≤◌, ◌∷◌, [], Some, None, length, nat_eq, IfOk, IfSome, IfNone, OnOk, OnErr, IfErr, option_copied};
+ghost use Rattle.std.specs.Prelude.{◌≡◌, ◌+◌, ◌-◌, ◌<◌, ◌≤◌, ◌∷◌, [], Some, None, length, take, nat_eq, IfOk, IfSome, IfNone, OnOk, OnErr, IfErr, option_copied};
+ghost use Rattle.std.specs.Map.{remove_entry};
 ghost use Rattle.lru.specs.LruCache.{last_entry, promoted};
 ghost use Rattle.entity_cache.specs.Contents.{found_at, OthersStay, AllStay, most_entries};
 
@@ -102,6 +103,7 @@ impl<C: Drop> ById<C> {
         ensures others { OthersStay id self.old self.new }
         ensures fewer { IfSome result (λ _. length self.new + 1 ≡ length self.old) }
         ensures same { IfNone result (self.new ≡ self.old) }
+        ensures order { self.new ≡ remove_entry (nat_eq id) self.old }
     {
         if self.contents.len() == 0 {
             return None;
@@ -116,6 +118,7 @@ impl<C: Drop> ById<C> {
         ensures gone { IfSome result (λ given. found_at self.new given.0 ≡ None) }
         ensures others { IfSome result (λ given. OthersStay given.0 self.old self.new) }
         ensures count { length self.new ≡ length self.old - 1 }
+        ensures order { self.new ≡ take (length self.old - 1) self.old }
         ensures oldest { result ≡ last_entry self.old }
         ensures none { IfNone result (self.old ≡ []) }
     {

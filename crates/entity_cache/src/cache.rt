@@ -2,9 +2,9 @@
 
 ghost use Rattle.std.specs.Prelude.{◌≡◌, ◌≢◌, ℕ, ◌+◌, ◌<◌, ◌≤◌, ◌^◌, ◌⊎◌, [], Some, None, true, false, length, IfOk, IfSome, IfNone, option_copied, nat_eq};
 ghost use Rattle.lru.specs.LruCache.{promoted};
-ghost use Rattle.entity_region.specs.Space.{Space, live, most, free, rounded, bytes_at, IsLive, IsTaken, HasNoHole};
+ghost use Rattle.entity_region.specs.Space.{Space, live, most, free, rounded, IsTaken, IsHole, HasNoHole};
 ghost use Rattle.entity_cache.specs.Contents.{most_entries};
-ghost use Rattle.entity_cache.specs.Cached.{block_of, content_of, IsHeld, ForeignStay, StaysOrLeaves, HaveLeft, IsOneHole};
+ghost use Rattle.entity_cache.specs.Cached.{block_of, content_of, without, IsHeld, ForeignStay, StaysOrLeaves, HaveLeft, LastUsedStay, IsNewest, IsOneHole, IsRoom};
 ghost use Rattle.entity_cache.specs.Keeping.{HasRoom, HasKept, IsFresh};
 ghost use Rattle.entity_cache.specs.declared.kept.Kept.TheVariants.{Yes, NoHole};
 
@@ -82,6 +82,9 @@ impl EntityCache {
         ensures kept { result ≡ Yes → content_of region.new self.new id ≡ Some bytes.now }
         ensures unkept { result ≢ Yes → block_of self.new id ≡ None }
         ensures others { (other : ℕ) → other ≢ id → StaysOrLeaves region.old self.old region.new self.new other }
+        ensures room { IsRoom region.old self.old (length bytes.now) → (other : ℕ) → other ≢ id → content_of region.new self.new other ≡ content_of region.old self.old other }
+        ensures newest { result ≡ Yes → IsNewest self.new id }
+        ensures last_used { LastUsedStay (without id self.old) (without id self.new) }
         ensures foreign { ForeignStay region.old self.old region.new self.new }
         ensures empty { result ≡ NoHole → self.new ≡ [] }
         ensures one_hole { result ≡ NoHole → IsOneHole region.new }
@@ -101,7 +104,9 @@ impl EntityCache {
         ensures held { IsHeld region.new self.new }
         ensures gone { block_of self.new id ≡ None }
         ensures others { (other : ℕ) → other ≢ id → content_of region.new self.new other ≡ content_of region.old self.old other }
+        ensures order { self.new ≡ without id self.old }
         ensures foreign { ForeignStay region.old self.old region.new self.new }
+        ensures holes { (at n : ℕ) → IsHole region.old at n → IsHole region.new at n }
     {
         match self.blocks.forget(id) {
             Some(block) => region.give(block),
@@ -130,6 +135,7 @@ impl EntityCache {
         ensures most { length self.now ≤ most_entries }
         ensures entries { result ≡ false → length self.now < most_entries }
         ensures blocks { result ≡ false → live region.now < most region.now }
+        ensures full { result ≡ true → (most_entries ≤ length self.now) ⊎ (most region.now ≤ live region.now) }
     {
         self.blocks.len() == MOST_ENTRIES || region.live() >= region.most()
     }
@@ -141,6 +147,8 @@ impl EntityCache {
         ensures left { HaveLeft region.old self.old region.new self.new }
         ensures entries { length self.new < most_entries }
         ensures blocks { live region.new < most region.new }
+        ensures same_region { length self.old < most_entries → live region.old < most region.old → region.new ≡ region.old }
+        ensures same_cache { length self.old < most_entries → live region.old < most region.old → self.new ≡ self.old }
     {
         if self.is_full(region) {
             self.give_up(region);
@@ -156,6 +164,9 @@ impl EntityCache {
         requires room { live region.old < most region.old }
         ensures taken { IfSome result (λ block. HasRoom region.old self.old region.new self.new n block) }
         ensures left { IfNone result (HaveLeft region.old self.old region.new self.new) }
+        ensures same { IfSome result (λ block. (at : ℕ) → IsHole region.old at (rounded n) → self.new ≡ self.old) }
+        ensures first { IfSome result (λ block. (at : ℕ) → IsHole region.old at (rounded n) → IsTaken region.old region.new n block) }
+        ensures full { IfNone result (HasNoHole region.old (rounded n)) }
         ensures empty { IfNone result (self.new ≡ []) }
         ensures one_hole { IfNone result (IsOneHole region.new) }
         ensures none { IfNone result (HasNoHole region.new (rounded n)) }

@@ -1,4 +1,4 @@
-use Rattle.std.proofs.Common.{◌≡◌, ◌+◌, length, Some, None, sym, ◌∙◌, ap}
+use Rattle.std.proofs.Common.{◌+◌, length, sym, ◌∙◌, ap}
 use Rattle.lru.specs.LruCache.{LruCache}
 use Rattle.entity_cache.specs.Contents.{found_at}
 use Rattle.entity_cache.proofs.Lookups.{gone_removed, if_absent, if_there, others_removed, removed_fewer, removed_none}

@@ -1,4 +1,4 @@
-use Rattle.std.proofs.Common.{◌≡◌, ◌+◌, length, Some, None, IfSome, IfNone, sym, ap, subst, ◌∙◌}
+use Rattle.std.proofs.Common.{◌≡◌, ◌+◌, length, Some, IfSome, IfNone, sym, ap, subst, ◌∙◌}
 use Rattle.entity_cache.specs.Cached.{block_of, ForeignStay}
 use Rattle.entity_cache.proofs.HeldLemmas.{foreign_left, foreign_none}
 use Rattle.entity_cache.proofs.cache.EntityCache.forget.Goals as goal

@@ -1,4 +1,4 @@
-use Rattle.std.proofs.Common.{◌≡◌, ◌+◌, ◌-◌, [], length, Some, None, IfSome, IfNone, arith, sym, ap, subst, ◌∙◌}
+use Rattle.std.proofs.Common.{◌≡◌, [], length, take, Some, None, IfSome, IfNone, arith, sym, ap, subst, ◌∙◌}
 use Rattle.entity_cache.specs.Contents.{found_at, OthersStay}
 use Rattle.entity_cache.specs.Cached.{block_of, HaveLeft}
 use Rattle.entity_cache.proofs.HeldLemmas.{left_one, left_none, some_entry, no_entries}
@@ -17,7 +17,8 @@ returns-clause-left c = elim c.match-give_up.branch [
       let same = ap length c.self.view_is in
       let some = some_entry c.args.self.now given.0 given.1 is in
       subst (λ r. HaveLeft c.args.region.now c.args.self.now r c.give_up.new.self) (sym (w.region-is ∙ w.give.ensures)) (left_one c.args.region.now c.args.self.now c.give_up.new.self given.0 given.1 c.requires is
-      gone (λ other differs. others other differs ∙ ap (λ xs. block_of xs other) c.self.view_is) (omega arith))
+      gone (λ other differs. others other differs ∙ ap (λ xs. block_of xs other) c.self.view_is) (omega arith)
+      (c.give_up.ensures.order ∙ ap (λ k. take k c.self.inside.blocks) (sym count) ∙ ap (take (length c.give_up.new.self)) c.self.view_is))
   | in-None w ↦
       let empty = subst (λ o. IfNone o (c.self.inside.blocks ≡ [])) w.in-None.is c.give_up.ensures.none in
       let count = c.give_up.ensures.count in

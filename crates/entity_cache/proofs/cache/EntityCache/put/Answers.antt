@@ -1,7 +1,5 @@
-use Rattle.std.proofs.Common.{◌≡◌, ◌∷◌, length, Some, None, OnOk, OnErr, IfErr, refl, sym, ap, subst, ◌∙◌}
+use Rattle.std.proofs.Common.{◌≡◌, ◌∷◌, length, None, OnOk, refl, sym, ap, subst, ◌∙◌}
 use Rattle.entity_region.specs.Space.{with_block, with_bytes}
-use Rattle.entity_cache.specs.Cached.{block_of}
-use Rattle.entity_cache.specs.Keeping.{HasKept}
 use Rattle.entity_cache.proofs.KeepLemmas.{put_yes, put_no, sized_written}
 use Rattle.entity_cache.proofs.cache.EntityCache.put.Goals as goal
 use Rattle.entity_cache.proofs.cache.EntityCache.put.Goals.{in-Ok, in-Err}

@@ -1,4 +1,4 @@
-use Rattle.std.proofs.Common.{◌≡◌, ◌*◌, length, IfSome, IfNone, arith, sym, subst}
+use Rattle.std.proofs.Common.{◌≡◌, ◌*◌, IfSome, IfNone, arith, sym, subst}
 use Rattle.entity_region.specs.Space.{rounded, IsTaken, HasNoHole}
 use Rattle.entity_cache.specs.Cached.{HaveLeft}
 use Rattle.entity_cache.proofs.Lookups.{if_absent, if_there}
@@ -22,3 +22,9 @@ returns-in-None-clause-empty c =
 pub returns-in-None-clause-none : goal.returns-in-None-clause-none
 returns-in-None-clause-none c = if_absent c.take-in-None.result _ (λ is.
     subst (λ r. HasNoHole r (rounded c.args.n)) (sym (subst (λ o. IfNone o (c.take-in-None.new.self ≡ c.pack.new.self)) is c.take-in-None.ensures.unchanged)) (subst (λ o. IfNone o (HasNoHole c.pack.new.self (rounded c.args.n))) is c.take-in-None.ensures.none))
+
+pub returns-in-None-clause-same : goal.returns-in-None-clause-same
+returns-in-None-clause-same c = if_there c.take-in-None.result _ (λ block is at hole. absurd (c.in-None.ensures.none at hole))
+
+pub returns-in-None-clause-first : goal.returns-in-None-clause-first
+returns-in-None-clause-first c = if_there c.take-in-None.result _ (λ block is at hole. absurd (c.in-None.ensures.none at hole))
