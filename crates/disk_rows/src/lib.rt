@@ -4,9 +4,13 @@
 #[cfg(test)]
 mod agreements;
 #[cfg(test)]
+mod caching;
+#[cfg(test)]
 mod channels;
 #[cfg(test)]
 mod chunks;
+#[cfg(test)]
+mod contents;
 #[cfg(test)]
 mod disks;
 #[cfg(test)]

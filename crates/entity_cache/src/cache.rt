@@ -65,6 +65,7 @@ impl EntityCache {
 
     /// Notes that an id was used, so that others are given up before it.
     pub fn touch(&mut self, id: u64)
+        ensures held { (region : Space) → IsHeld region self.old → IsHeld region self.new }
         ensures all { (other : ℕ) → block_of self.new other ≡ block_of self.old other }
         ensures order { self.new ≡ promoted (nat_eq id) self.old }
         ensures count { length self.new ≡ length self.old }
