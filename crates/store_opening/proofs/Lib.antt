@@ -1,5 +1,6 @@
 pub mod SyncedDisks
 pub mod LogDamage
+pub mod ChunkDamage
 pub mod LogsSoFar
 pub mod ShownAgain
 pub mod WrongLogs
