@@ -1,5 +1,5 @@
 -- The fault that is told of a chunk, or of what the root reaches, is one.
-use Rattle.std.proofs.Common.{◌≡◌, ◌∙◌, ℕ, ◌<◌, List, length, sym, ap, subst}
+use Rattle.std.proofs.Common.{◌≡◌, ◌∙◌, ℕ, ◌<◌, List, length, Result, Err, sym, ap, subst}
 use Rattle.oid_table.specs.Table.{Table}
 use Rattle.entity_index.specs.declared.row.Row.{Row}
 use Rattle.type_desc.specs.declared.desc.TypeDesc.{TypeDesc}
@@ -12,11 +12,12 @@ use Rattle.disk_opening.specs.declared.chunks.ChunkFault.{ChunkFault}
 use Rattle.disk_opening.specs.declared.chunks.ChunkFault.TheVariants as chunks
 use Rattle.disk_opening.specs.declared.entities.SearchFault.{SearchFault}
 use Rattle.disk_opening.specs.declared.entities.SearchFault.TheVariants as searches
-use Rattle.store_opening.specs.Damage.{IsAbsent, IsSearchDamage, IsWrongId}
+use Rattle.store_opening.specs.Damage.{IsSearchDamage}
 use Rattle.store_opening.specs.Faults.{of_chunk, of_search}
 use Rattle.store_opening.specs.IndexesRead.{AreIndexed}
 use Rattle.store_opening.specs.declared.fault.Cause.{Cause}
 use Rattle.store_opening.specs.declared.fault.Cause.TheVariants.{Chunk}
+use Rattle.store_opening.specs.declared.fault.OpenFault.{OpenFault}
 use Rattle.store_opening.specs.declared.fault.OpenFault.TheVariants.{Damaged, Full}
 use Rattle.store_opening.proofs.TablesGiven.{tables_given}
 
@@ -25,6 +26,9 @@ same_channel e = cc
 
 same_cause : {j k : ℕ} {a b : Cause} → Damaged j a ≡ Damaged k b → a ≡ b
 same_cause e = cc
+
+pub inside : {T : Type 0} {e f : OpenFault} → ◌≡◌ {A = Result T OpenFault} (Err e) (Err f) → e ≡ f
+inside is = cc
 
 -- CHUNKS
 

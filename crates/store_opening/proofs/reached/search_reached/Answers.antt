@@ -1,9 +1,9 @@
 -- The tables of the indexes are searched.
-use Rattle.std.proofs.Common.{◌≡◌, ◌∙◌, List, length, map, sym, subst, arith}
+use Rattle.std.proofs.Common.{◌∙◌, map, sym, subst, arith}
 use Rattle.std.proofs.lemmas.List.{length-map}
 use Rattle.recovery.specs.Reach.{Tables}
 use Rattle.disk_opening.specs.SearchFaults.{IsFaultAt, IsReachedFault, IsSearchedWhole}
-use Rattle.store_opening.proofs.ChunkDamage.{same_tables, search_damage}
+use Rattle.store_opening.proofs.ChunkDamage.{inside, same_tables, search_damage}
 use Rattle.store_opening.proofs.TablesGiven.{rows_are_there}
 use Rattle.store_opening.proofs.reached.search_reached.Goals as goal
 
@@ -28,4 +28,4 @@ returns-in-Err-clause-damaged g c tells m next is j cause told =
     search_damage images m c.args.types.now j cause _ c.in-Err.fault many
     (subst (λ (t : Tables). IsFaultAt c.args.types.now t c.in-Err.fault) same (c.in-Err.ensures.fault tells))
     (subst (λ (t : Tables). IsReachedFault t c.in-Err.fault) same (c.in-Err.ensures.reached tells))
-    (sym c.of_search.ensures ∙ told)
+    (sym c.of_search.ensures ∙ inside told)
