@@ -1,0 +1,4 @@
+pub mod Faults
+pub mod Finished
+pub mod Full
+pub mod Held

@@ -1,0 +1,7 @@
+//! What a stop left unfinished in the logs of all channels is taken back, once all that the disks hold was found right.
+#![tactic(auto)]
+
+mod dropping;
+mod finishing;
+
+pub use finishing::finish_log;
