@@ -1,9 +1,11 @@
 -- What a log is once what a stop left unfinished in it was taken back.
-use Rattle.std.specs.Prelude.{◌≡◌, ◌⊎◌, ℕ, ◌+◌, ◌<◌, IsTrue, List, length, slice_get, Some}
+use Rattle.std.specs.Prelude.{◌≡◌, ◌⊎◌, ℕ, ◌+◌, ◌<◌, true, IsTrue, List, slice_get, Some}
 use Rattle.gated_log.specs.Log.{IsLogOf, payloads_of}
 use Rattle.gated_log.specs.Reading.{IsReading}
 use Rattle.store_io.specs.Disk.{OthersStay}
-use Rattle.transactions_file.specs.Inventory.{State, inventory_of}
+use Rattle.tx_entry.specs.declared.entry.Entry.{Entry}
+use Rattle.tx_entry.specs.declared.entry.Entry.TheVariants.{Truncation}
+use Rattle.transactions_file.specs.Inventory.{State, inventory_of, is_store_at}
 use Rattle.transactions_file.specs.Transactions.{IsKept, Transactions}
 use Rattle.channel.specs.Images.{Image, IsLogFile, log_header, state_of}
 use Rattle.recovery.specs.Images.{image_at}
@@ -16,6 +18,13 @@ pub record IsReadFrom (l : ChannelLog) (file : List ℕ) : Type 0 where
   pub reading : IsReading l.opening file
   pub is_log : IsLogFile l.opening.header file
   pub inventory : inventory_of (payloads_of file) ≡ Some l.inventory.state
+
+-- the entry is the Truncation of the last store, which is the last entry
+pub record IsTruncationOf (s : State) (e : Entry) : Type 0 where
+  pub file : ℕ
+  pub at : ℕ
+  pub entry : e ≡ Truncation file at s.last
+  pub last : is_store_at s.entry file at s.last ≡ true
 
 -- The file has the header, and these payloads, which give this inventory, where their last store is m; where it is the one behind, these with its
 -- Truncation.

@@ -1,5 +1,5 @@
 -- Where a Truncation is due, and where the log takes none.
-use Rattle.std.specs.Prelude.{◌≡◌, ℕ, ◌+◌, ◌^◌, ◌<◌, List, length}
+use Rattle.std.specs.Prelude.{◌≡◌, ℕ, ◌+◌, ◌-◌, ◌^◌, ◌<◌, List, length}
 use Rattle.gated_log.specs.Log.{length_of, payloads_of}
 use Rattle.channel.specs.Images.{Image, state_of}
 use Rattle.recovery.specs.Images.{image_at}

@@ -5,11 +5,9 @@ ghost use Rattle.call_counts.specs.Counts.{Rose};
 ghost use Rattle.store_io.specs.Disk.{Only, OthersStay};
 ghost use Rattle.gated_log.specs.Log.{Each, IsLogOf, payloads_of};
 ghost use Rattle.transactions_file.specs.Transactions.{IsKept};
-ghost use Rattle.transactions_file.specs.Inventory.{is_store_at};
-ghost use Rattle.tx_entry.specs.declared.entry.Entry.TheVariants.{Truncation};
-ghost use Rattle.store_agreement.specs.Agreement.{Agrees, IsStoreOf};
+ghost use Rattle.store_agreement.specs.Agreement.{IsStoreOf};
 ghost use Rattle.store_opening.specs.TakenBack.{IsTakenBack};
-ghost use Rattle.log_rollback.specs.Finished.{HasHeader, IsFinished, IsOpenAt};
+ghost use Rattle.log_rollback.specs.Finished.{HasHeader, IsFinished, IsOpenAt, IsTruncationOf};
 ghost use Rattle.log_rollback.specs.Faults.{of_append};
 
 use gated_log::AppendFault;
@@ -31,7 +29,7 @@ fn of_append(fault: AppendFault) -> OpenFault
 /// The Truncation of the last store, which is the last entry.
 fn truncation_of(inventory: &Inventory) -> Entry
     requires { IsStoreOf inventory.now.state.last inventory.now.state.entry }
-    ensures { (file : ℕ) × (at : ℕ) × (result ≡ Truncation file at inventory.now.state.last) × (is_store_at inventory.now.state.entry file at inventory.now.state.last ≡ true) }
+    ensures { IsTruncationOf inventory.now.state result }
 {
     let Some(Entry::Store { file, at, .. }) = inventory.last_entry() else {
         unreachable!()
@@ -44,7 +42,7 @@ fn truncation_of(inventory: &Inventory) -> Entry
 }
 
 /// Appends the Truncation of the last store, which is the last entry.
-fn drop_last<D: Disk>(
+pub(crate) fn drop_last<D: Disk>(
     disk: &mut D,
     transactions: &mut TransactionsFile,
 ) -> Result<(), OpenFault>
