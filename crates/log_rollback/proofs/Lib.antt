@@ -1,1 +1,3 @@
 pub mod TakingBack
+pub mod OneDisk
+pub mod HeldStill

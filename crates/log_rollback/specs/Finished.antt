@@ -1,5 +1,5 @@
 -- What a log is once what a stop left unfinished in it was taken back.
-use Rattle.std.specs.Prelude.{◌≡◌, ◌⊎◌, ℕ, ◌+◌, ◌<◌, true, IsTrue, List, slice_get, Some}
+use Rattle.std.specs.Prelude.{◌≡◌, ◌⊎◌, ℕ, ◌+◌, ◌<◌, ◌≤◌, true, IsTrue, List, slice_get, Some}
 use Rattle.gated_log.specs.Log.{IsLogOf, payloads_of}
 use Rattle.gated_log.specs.Reading.{IsReading}
 use Rattle.store_io.specs.Disk.{OthersStay}
@@ -67,4 +67,4 @@ AllOthersStay file old new old_leaves new_leaves = (j : ℕ) → OthersStay file
 
 -- the disks from j on are as they were
 abbrev pub AreUntouchedFrom : {D : Type 0} → ℕ → (old new : List D) → Type 0
-AreUntouchedFrom j old new = (i : ℕ) → j < i + 1 → slice_get new i ≡ slice_get old i
+AreUntouchedFrom j old new = (i : ℕ) → j ≤ i → slice_get new i ≡ slice_get old i

@@ -1,7 +1,9 @@
 //! What a stop left unfinished in the logs of all channels is taken back, once all that the disks hold was found right.
 #![tactic(auto)]
 
+mod all_logs;
 mod dropping;
 mod finishing;
 
+pub use all_logs::finish_logs;
 pub use finishing::finish_log;
