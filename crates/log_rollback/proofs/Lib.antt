@@ -1,3 +1,5 @@
 pub mod TakingBack
 pub mod OneDisk
 pub mod HeldStill
+pub mod LogsSoFar
+pub mod Agreed
