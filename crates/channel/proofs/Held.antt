@@ -2,6 +2,7 @@
 use Rattle.std.proofs.Common.{◌≡◌, ◌≤◌, ◌+◌, ◌-◌, ◌==◌, ℕ, Bool, true, false, cond, List, [], ◌∷◌, take, drop, Option, Some, None, refl, sym, ap, subst, ◌∙◌, arith}
 use Rattle.std.specs.Prelude.{IsSomeAnd}
 use Rattle.std.specs.List.{AllByRecursion}
+use Rattle.std.proofs.Math.Nat.{max-le}
 use Rattle.std.proofs.lemmas.Bool.{eq-eqb, false≢true}
 use Rattle.graph_model.specs.Graph.{entity_of, or_else}
 use Rattle.graph_model.specs.declared.entity.Entity.{Entity}
@@ -10,7 +11,7 @@ use Rattle.data_file.specs.Chunks.{entities_of}
 use Rattle.channel_files.specs.Channel.{Channel}
 use Rattle.channel_files.specs.Chunks.{Range, content_of}
 use Rattle.channel.specs.ChunkRule.{IsRightRange, ranges_to}
-use Rattle.channel.specs.Core.{last_part, log_next_id, next_before}
+use Rattle.channel.specs.Core.{ids_below, ids_below_before, last_part, log_next_id}
 use Rattle.channel.specs.Holding.{AreAlike, AreBothAlike, HasGained, Holding, KeepsHolding, holding, holding_in}
 use Rattle.channel.specs.Images.{Image}
 use Rattle.channel.specs.Left.{EndsAsHeld}
@@ -100,28 +101,28 @@ told_then true x P holds = absurd holds
 told_then false x P holds = (refl, holds)
 
 module _ {D : Type 0} (reads : D → ℕ → List ℕ) (c : ChannelState D) (d : DiskTable) where
-  pub image_ended : (most : ℕ) (image : Image) → AreAlike (holding reads c).held d → log_next_id c ≤ most → EndsAsHeld reads c image → EndsAt c.channels c.number (last_part c) most d image
-  image_ended most image alike le ends =
-      ends_more c.channels c.number (last_part c) (log_next_id c) most d image le
-      (ends_as c.channels c.number (last_part c) (log_next_id c) (disk_held reads c) d image (sym alike.next_id) (λ x. sym (alike.entities x)) ends.ends)
+  pub image_ended : (most : ℕ) (image : Image) → AreAlike (holding reads c).held d → c.opened_next_id ≤ most → log_next_id c ≤ most → EndsAsHeld reads c image → EndsAt c.channels c.number (last_part c) most d image
+  image_ended most image alike opened le ends =
+      ends_more c.channels c.number (last_part c) (ids_below c) most d image (max-le opened le)
+      (ends_as c.channels c.number (last_part c) (ids_below c) (disk_held reads c) d image (sym alike.next_id) (λ x. sym (alike.entities x)) ends.ends)
 
-  pub image_opened : (m next_id most : ℕ) (part : List Record) (image : Image) → last_part c ≡ m + 1 → HasGained part next_id d (holding reads c) → d.next_id ≤ most → EndsAsHeld reads c image
+  pub image_opened : (m next_id most : ℕ) (part : List Record) (image : Image) → last_part c ≡ m + 1 → HasGained part next_id d (holding reads c) → c.opened_next_id ≤ most → d.next_id ≤ most → most ≤ next_id → EndsAsHeld reads c image
       → HasPart c.channels c.number m most part next_id d image
-  image_opened m next_id most part image last gained le ends =
+  image_opened m next_id most part image last gained opened le up ends =
       let told = told_then (c.files.confirmed == last_part c) (disk_before reads c) (λ b. AreAlike b d) gained.before in
       let waits = λ (e : c.files.confirmed ≡ last_part c). false≢true (sym told.0 ∙ eq-eqb c.files.confirmed (last_part c) e) in
       let less : last_part c - 1 ≡ m = omega (arith, last) in
-      let was = subst (λ (k : ℕ). ShowsAt c.channels c.number k (next_before c) (disk_before reads c) image) less (ends.before waits) in
+      let was = subst (λ (k : ℕ). ShowsAt c.channels c.number k (ids_below_before c) (disk_before reads c) image) less (ends.before waits) in
       let over = with_part part next_id d in
-      let now = ends_as c.channels c.number (last_part c) (log_next_id c) (disk_held reads c) over image (sym gained.held.next_id) (λ x. sym (gained.held.entities x)) ends.ends in record {
-        before = shows_more c.channels c.number m (next_before c) most d image (omega (arith, told.1.next_id, le))
-            (shows_as c.channels c.number m (next_before c) (disk_before reads c) d image (sym told.1.next_id) (λ x. sym (told.1.entities x)) was);
+      let now = ends_as c.channels c.number (last_part c) (ids_below c) (disk_held reads c) over image (sym gained.held.next_id) (λ x. sym (gained.held.entities x)) ends.ends in record {
+        before = shows_more c.channels c.number m (ids_below_before c) most d image (max-le opened (omega (arith, told.1.next_id, le)))
+            (shows_as c.channels c.number m (ids_below_before c) (disk_before reads c) d image (sym told.1.next_id) (λ x. sym (told.1.entities x)) was);
         now = subst (λ (k : ℕ). EndsAt c.channels c.number k next_id over image) last
-            (subst (λ (k : ℕ). EndsAt c.channels c.number (last_part c) k over image) gained.held.next_id now);
+            (ends_more c.channels c.number (last_part c) (ids_below c) next_id over image (max-le (omega (arith, opened, up)) (omega (arith, gained.held.next_id))) now);
       }
 
-  pub image_tried : (next_id most : ℕ) (part : List Record) (image : Image) → AreAlike (holding reads c).held d → log_next_id c ≤ most
-      → HasPart c.channels c.number (last_part c) (log_next_id c) part next_id (disk_held reads c) image → HasPart c.channels c.number (last_part c) most part next_id d image
-  image_tried next_id most part image alike le has =
-      let there = has_part_as c.channels c.number (last_part c) (log_next_id c) part next_id (disk_held reads c) d image (sym alike.next_id) (λ x. sym (alike.entities x)) has in
-      record { before = shows_more c.channels c.number (last_part c) (log_next_id c) most d image le there.before; now = there.now }
+  pub image_tried : (next_id most : ℕ) (part : List Record) (image : Image) → AreAlike (holding reads c).held d → c.opened_next_id ≤ most → log_next_id c ≤ most
+      → HasPart c.channels c.number (last_part c) (ids_below c) part next_id (disk_held reads c) image → HasPart c.channels c.number (last_part c) most part next_id d image
+  image_tried next_id most part image alike opened le has =
+      let there = has_part_as c.channels c.number (last_part c) (ids_below c) part next_id (disk_held reads c) d image (sym alike.next_id) (λ x. sym (alike.entities x)) has in
+      record { before = shows_more c.channels c.number (last_part c) (ids_below c) most d image (max-le opened le) there.before; now = there.now }

@@ -1,4 +1,5 @@
 -- What each image has of a channel that stands for the same as before.
+use Rattle.std.specs.Prelude.{max}
 use Rattle.std.proofs.Common.{◌≡◌, ◌≢◌, inl, inr, ℕ, ◌+◌, ◌-◌, Bool, true, false, List, [], ◌∷◌, ◌++◌, Option, Some, None, IsTrue, IfSome, refl, sym, ap, subst, ◌∙◌}
 use Rattle.std.specs.Prelude.{IsSomeAnd}
 use Rattle.store_io.specs.Whole.{EachImage, IsImage}
@@ -12,7 +13,7 @@ use Rattle.core_steps.specs.Told.{Tried, TriedPart, TriedType}
 use Rattle.transactions_file.specs.Transactions.{Transactions}
 use Rattle.channel_files.specs.Channel.{Channel}
 use Rattle.channel_files.specs.Images.{EachAsRead}
-use Rattle.channel.specs.Core.{bytes_at, core_of, last_part, log_next_id, next_before, payloads_kept, table_in, types_kept}
+use Rattle.channel.specs.Core.{bytes_at, core_of, ids_below, ids_below_before, last_part, log_next_id, next_before, payloads_kept, table_in, types_kept}
 use Rattle.channel.specs.Entities.{entity_in}
 use Rattle.channel.specs.Left.{EndsAsHeld, EndsOrTried, HasTriedPart, HoldsOrTried, HoldsTried, IsLeft}
 use Rattle.channel.specs.OnDisk.{AgreesWithImages, HasAll, HasRecords, HoldsChannel, HoldsPart, HoldsWith, WasThere, entity_at}
@@ -38,6 +39,7 @@ pub record StandsForSame {D : Type 0} (reads : D → ℕ → List ℕ) (old new 
   pub kept : types_kept reads new ≡ types_kept reads old
   pub number : new.number ≡ old.number
   pub channels : new.channels ≡ old.channels
+  pub opened : new.opened_next_id ≡ old.opened_next_id
   pub entities : (x : ℕ) → (disk_held reads new).entities x ≡ (disk_held reads old).entities x
   pub next_before_is : old.files.confirmed ≢ last_part old → next_before new ≡ next_before old
   pub entities_before : old.files.confirmed ≢ last_part old → (x : ℕ) → (disk_before reads new).entities x ≡ (disk_before reads old).entities x
@@ -110,38 +112,41 @@ has_part_as n j m next part part_next d e image next_is same s = record {
   now = ends_as n j (m + 1) part_next (with_part part part_next d) (with_part part part_next e) image refl (λ x. ap (λ (o : Option Entity). or_else (entity_of part x) o) (same x)) s.now;
 }
 
+below_same : {D : Type 0} (reads : D → ℕ → List ℕ) (old new : ChannelState D) → StandsForSame reads old new → ids_below new ≡ ids_below old
+below_same reads old new same = λ i. max (same.opened i) (same.next i)
+
 -- what holds of a channel's numbers holds of the other's
 pub numbers_as : {D : Type 0} (reads : D → ℕ → List ℕ) (old new : ChannelState D) → StandsForSame reads old new → (P : (n j m next : ℕ) → Type 0)
-    → P old.channels old.number (last_part old) (log_next_id old) → P new.channels new.number (last_part new) (log_next_id new)
+    → P old.channels old.number (last_part old) (ids_below old) → P new.channels new.number (last_part new) (ids_below new)
 numbers_as reads old new same P holds =
-    subst (λ (n : ℕ). P n new.number (last_part new) (log_next_id new)) (sym same.channels)
-    (subst (λ (j : ℕ). P old.channels j (last_part new) (log_next_id new)) (sym same.number)
-    (subst (λ (m : ℕ). P old.channels old.number m (log_next_id new)) (sym same.last)
-    (subst (λ (x : ℕ). P old.channels old.number (last_part old) x) (sym same.next) holds)))
+    subst (λ (n : ℕ). P n new.number (last_part new) (ids_below new)) (sym same.channels)
+    (subst (λ (j : ℕ). P old.channels j (last_part new) (ids_below new)) (sym same.number)
+    (subst (λ (m : ℕ). P old.channels old.number m (ids_below new)) (sym same.last)
+    (subst (λ (x : ℕ). P old.channels old.number (last_part old) x) (sym (below_same reads old new same)) holds)))
 
 module _ {D : Type 0} (reads : D → ℕ → List ℕ) (old new : ChannelState D) (same : StandsForSame reads old new) (image : ℕ → List ℕ) where
   pub ends_same : EndsAsHeld reads old image → EndsAsHeld reads new image
   ends_same h = record {
     ends = numbers_as reads old new same (λ n j m next. EndsAt n j m next (disk_held reads new) image)
-        (ends_as old.channels old.number (last_part old) (log_next_id old) (disk_held reads old) (disk_held reads new) image same.next same.entities h.ends);
+        (ends_as old.channels old.number (last_part old) (ids_below old) (disk_held reads old) (disk_held reads new) image same.next same.entities h.ends);
     before = λ unconfirmed. let u = same.before unconfirmed in
-        subst (λ (x : ℕ). ShowsAt new.channels new.number (last_part new - 1) x (disk_before reads new) image) (sym (same.next_before_is u))
-        (numbers_as reads old new same (λ n j m next. ShowsAt n j (m - 1) (next_before old) (disk_before reads new) image)
-        (shows_as old.channels old.number (last_part old - 1) (next_before old) (disk_before reads old) (disk_before reads new) image (same.next_before_is u) (same.entities_before u) (h.before u)));
+        subst (λ (x : ℕ). ShowsAt new.channels new.number (last_part new - 1) x (disk_before reads new) image) (sym (λ i. max (same.opened i) (same.next_before_is u i)))
+        (numbers_as reads old new same (λ n j m next. ShowsAt n j (m - 1) (ids_below_before old) (disk_before reads new) image)
+        (shows_as old.channels old.number (last_part old - 1) (ids_below_before old) (disk_before reads old) (disk_before reads new) image (same.next_before_is u) (same.entities_before u) (h.before u)));
   }
 
-  pub has_part_same : (next : ℕ) (part : List Record) → HasPart old.channels old.number (last_part old) (log_next_id old) part next (disk_held reads old) image
-      → HasPart new.channels new.number (last_part new) (log_next_id new) part next (disk_held reads new) image
+  pub has_part_same : (next : ℕ) (part : List Record) → HasPart old.channels old.number (last_part old) (ids_below old) part next (disk_held reads old) image
+      → HasPart new.channels new.number (last_part new) (ids_below new) part next (disk_held reads new) image
   has_part_same next part h = numbers_as reads old new same (λ n j m x. HasPart n j m x part next (disk_held reads new) image)
-      (has_part_as old.channels old.number (last_part old) (log_next_id old) part next (disk_held reads old) (disk_held reads new) image same.next same.entities h)
+      (has_part_as old.channels old.number (last_part old) (ids_below old) part next (disk_held reads old) (disk_held reads new) image same.next same.entities h)
 
   tried_part_same : new.prepared ≡ old.prepared → (t : Option Tried) → HasTriedPart reads old t image → HasTriedPart reads new t image
   tried_part_same ready None h = absurd h
   tried_part_same ready (Some (TriedType text)) h = absurd h
   tried_part_same ready (Some (TriedPart number next)) h =
-      subst (λ (o : Option (List Record)). IsSomeAnd o (λ part. HasPart new.channels new.number (last_part new) (log_next_id new) part next (disk_held reads new) image)) (sym ready)
-      (some_and (λ part. HasPart old.channels old.number (last_part old) (log_next_id old) part next (disk_held reads old) image)
-      (λ part. HasPart new.channels new.number (last_part new) (log_next_id new) part next (disk_held reads new) image) old.prepared (has_part_same next) h)
+      subst (λ (o : Option (List Record)). IsSomeAnd o (λ part. HasPart new.channels new.number (last_part new) (ids_below new) part next (disk_held reads new) image)) (sym ready)
+      (some_and (λ part. HasPart old.channels old.number (last_part old) (ids_below old) part next (disk_held reads old) image)
+      (λ part. HasPart new.channels new.number (last_part new) (ids_below new) part next (disk_held reads new) image) old.prepared (has_part_same next) h)
 
   pub ends_either : new.prepared ≡ old.prepared → new.tried ≡ old.tried → EndsOrTried reads old image → EndsOrTried reads new image
   ends_either ready tried (inl h) = inl (ends_same h)
@@ -163,7 +168,7 @@ each_end tells reads leaves c sound left told = by c.failed refl
         let t = c.files.transactions in
         let r = reads c.files.disk in
         inl (record {
-          ends = each_ends reads leaves c on agrees left.header (log_next_id c) on.right image at;
+          ends = each_ends reads leaves c on agrees left.header (ids_below c) on.right image at;
           before = λ unconfirmed. before_shown reads c image (on.waits unconfirmed) left.header (shows_whole t r image on.of_disk (as_read_holds t r image on.of_disk (agrees.files image at)));
         })
 
@@ -217,6 +222,7 @@ module _ {D : Type 0} (tells : Bool) (reads : D → ℕ → List ℕ) (leaves : 
     kept = ap (λ (r : ℕ → List ℕ). payloads_kept (r 1) old.types) (read told);
     number = refl;
     channels = refl;
+    opened = refl;
     entities = λ x. λ i. (disk_in (same.transactions i).inventory.state.last (content_of (read told i)) 0).entities x;
     next_before_is = λ unconfirmed. ap (λ (t : Transactions). t.inventory.state.next_id_before) same.transactions;
     entities_before = λ unconfirmed x. λ i. (disk_in ((same.transactions i).inventory.state.last - 1) (content_of (read told i)) 0).entities x;

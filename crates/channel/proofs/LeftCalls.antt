@@ -51,6 +51,7 @@ module _ {D : Type 0} (tells : Bool) (reads : D → ℕ → List ℕ) (leaves : 
     kept = ap (λ (d : D). payloads_kept (reads d 1) c.types) same.disk;
     number = refl;
     channels = refl;
+    opened = refl;
     entities = λ x. λ i. (disk_in (same.state i).last (content_of (reads (same.disk i))) 0).entities x;
     next_before_is = λ unconfirmed. ap (λ (s : State). s.next_id_before) same.state;
     entities_before = λ unconfirmed x. λ i. (disk_in ((same.state i).last - 1) (content_of (reads (same.disk i))) 0).entities x;
@@ -89,6 +90,7 @@ left_confirmed tells reads leaves c number is sound left =
       kept = refl;
       number = refl;
       channels = refl;
+      opened = refl;
       entities = λ x. refl;
       next_before_is = λ unconfirmed. refl;
       entities_before = λ unconfirmed x. refl;
@@ -152,6 +154,7 @@ module _ {D : Type 0} (tells : Bool) (reads : D → ℕ → List ℕ) (leaves : 
         kept = refl;
         number = refl;
         channels = refl;
+        opened = refl;
         entities = λ x. refl;
         next_before_is = λ unconfirmed. refl;
         entities_before = λ unconfirmed x. refl;

@@ -13,7 +13,7 @@ use Rattle.channel_files.specs.declared.place.Place.{Place}
 use Rattle.channel_files.specs.Channel.{Channel}
 use Rattle.channel_files.specs.Outcomes.{FileStays, IsStored}
 use Rattle.entity_index.specs.declared.row.Row.{Row}
-use Rattle.channel.specs.Core.{last_part, log_next_id, payloads_kept, types_kept}
+use Rattle.channel.specs.Core.{last_part, ids_below, payloads_kept, types_kept}
 use Rattle.channel.specs.Entities.{chunk_for, entity_in}
 use Rattle.std.specs.List.{AllByRecursion}
 use Rattle.channel.specs.ChunkRule.{IsOwn}
@@ -60,6 +60,7 @@ module _ {D A : Type 0} {tells : Bool} {reads : D → ℕ → List ℕ} {leaves 
     kept = not_kept call told agrees left same;
     number = refl;
     channels = refl;
+    opened = refl;
     entities = λ x. λ i. (disk_in (call.stays.transactions i).inventory.state.last (call.stays.content told i) 0).entities x;
     next_before_is = λ unconfirmed. ap (λ (t : Transactions). t.inventory.state.next_id_before) call.stays.transactions;
     entities_before = λ unconfirmed x. λ i. (disk_in ((call.stays.transactions i).inventory.state.last - 1) (call.stays.content told i) 0).entities x;
@@ -82,7 +83,7 @@ module _ {D A : Type 0} {tells : Bool} {reads : D → ℕ → List ℕ} {leaves 
       let whole = subst (λ (t : Transactions). Shows t.log.header t.inventory.state.last t.inventory.state.next_id (newest_of t.inventory.state.entry) t.inventory.state.next_id_before (content_of (reads old.files.disk)) image)
       call.stays.transactions as_old in
       inl (ends_same reads old tried_now stands_typed image (record {
-        ends = ends_typed call told agrees header (log_next_id old) on.right image at;
+        ends = ends_typed call told agrees header (ids_below old) on.right image at;
         before = λ unconfirmed. before_shown reads old image (on.waits unconfirmed) header whole;
       }))
 
@@ -94,14 +95,14 @@ module _ {D : Type 0} (tells : Bool) (reads : D → ℕ → List ℕ) (leaves : 
     (left : (file : ℕ) → IsTrue (leaves files.disk file (reads files.disk file)))
     (last : files.transactions.inventory.state.last ≡ last_part c) (next_same : files.transactions.inventory.state.next_id ≡ c.files.transactions.inventory.state.next_id)
     (unconfirmed : files.confirmed ≡ c.files.confirmed) (file_one : FileStays 1 (reads c.files.disk) (reads files.disk) (leaves c.files.disk) (leaves files.disk))
-    (ready : c.prepared ≡ Some rs) (header : c.files.transactions.log.header ≡ log_header c.channels c.number) (le : log_next_id c ≤ next)
+    (ready : c.prepared ≡ Some rs) (header : c.files.transactions.log.header ≡ log_header c.channels c.number) (le : ids_below c ≤ next)
     (own : AllByRecursion (IsOwn c.channels c.number next) rs) (ending : Ending) (failed : Bool) where
   abbrev part_tried : ChannelState D
   part_tried = record c { files = files; ending = ending; failed = failed; tried = Some (TriedPart number next) }
 
   ends_or_part : (image : ℕ → List ℕ) → IsImage (leaves files.disk) image
-      → EndsAsHeld reads c image ⊎ HasPart c.channels c.number (last_part c) (log_next_id c) rs next (disk_held reads c) image
-  ends_or_part image at = elim (ends_or_has reads leaves c on agrees header (log_next_id c) on.right tells files number next rs result part stored told number_is image at le own) [
+      → EndsAsHeld reads c image ⊎ HasPart c.channels c.number (last_part c) (ids_below c) rs next (disk_held reads c) image
+  ends_or_part image at = elim (ends_or_has reads leaves c on agrees header (ids_below c) on.right tells files number next rs result part stored told number_is image at le own) [
     | inl h ↦ inl (record { ends = h; before = λ differs. absurd (differs confirmed) })
     | inr h ↦ inr h
   ]
@@ -121,6 +122,7 @@ module _ {D : Type 0} (tells : Bool) (reads : D → ℕ → List ℕ) (leaves : 
     kept = ap (λ (bytes : List ℕ). payloads_kept bytes c.types) file_one.reads;
     number = refl;
     channels = refl;
+    opened = refl;
     entities = λ x. ap (λ (m : ℕ). entity_at (reads files.disk) m x) last ∙ held_still x;
     next_before_is = λ differs. absurd (differs confirmed);
     entities_before = λ differs. absurd (differs confirmed);
@@ -137,6 +139,6 @@ module _ {D : Type 0} (tells : Bool) (reads : D → ℕ → List ℕ) (leaves : 
   ends_parted image at = elim (ends_or_part image at) [
     | inl h ↦ inl (ends_same reads c part_tried stands_parted image h)
     | inr h ↦ inr (subst (λ (o : Option (List Record)). IsSomeAnd o (λ part.
-        HasPart c.channels c.number (last_part part_tried) (log_next_id part_tried) part next (disk_held reads part_tried) image)) (sym ready)
+        HasPart c.channels c.number (last_part part_tried) (ids_below part_tried) part next (disk_held reads part_tried) image)) (sym ready)
         (has_part_same reads c part_tried stands_parted image next rs h))
   ]

@@ -1,4 +1,5 @@
 -- Rows where the chunks of what is read stay, or become more.
+use Rattle.std.specs.Prelude.{max}
 use Rattle.std.proofs.Common.{◌≡◌, ◌≢◌, ℕ, ◌+◌, ◌-◌, ◌≤◌, List, length, take, drop, Option, Some, None, IfSome, refl, ap, sym, subst, ◌∙◌, arith}
 use Rattle.std.specs.Ordering.{nat_cmp}
 use Rattle.std.specs.FinMap.{FinMap, get}
@@ -16,7 +17,7 @@ use Rattle.entity_index.specs.declared.row.Row.{Row}
 use Rattle.channel.specs.declared.part.Slot.{Slot}
 use Rattle.channel.specs.Stages.{ids_where, is_grey, is_marked, phase_in}
 use Rattle.channel.specs.State.{ChannelState}
-use Rattle.channel.specs.Core.{bytes_at, core_of, last_part, log_next_id, next_before, pins_in, table_in}
+use Rattle.channel.specs.Core.{bytes_at, core_of, last_part, ids_below, ids_below_before, log_next_id, pins_in, table_in}
 use Rattle.transactions_file.specs.Inventory.{State}
 use Rattle.channel_files.specs.Shows.{newest_of}
 use Rattle.channel.specs.ChunkRule.{AreRightTo}
@@ -87,6 +88,7 @@ pub record KeepsRows {D : Type 0} (reads : D → ℕ → List ℕ) (old new : Ch
   pub replaced : new.replaced ≡ old.replaced
   pub phase : new.phase ≡ old.phase
   pub next : log_next_id new ≡ log_next_id old
+  pub opened : new.opened_next_id ≡ old.opened_next_id
   pub number : new.number ≡ old.number
   pub channels : new.channels ≡ old.channels
 
@@ -126,14 +128,14 @@ module _ {D : Type 0} (reads : D → ℕ → List ℕ) (old new : ChannelState D
       (if_row (row_before old.replaced id row) (Stands (reads old.files.disk) (last_part old - 1) id) (Stands (reads new.files.disk) (last_part new - 1) id)
       (λ row. stand_still (last_part new - 1) (last_part old - 1) id row (ap (λ (k : ℕ). k - 1) keeps.last)) (before id row (had_row id row is)))
 
-  right_still : AreRightTo new.channels new.number (log_next_id new) (last_part new) (content_of (reads new.files.disk))
+  right_still : AreRightTo new.channels new.number (ids_below new) (last_part new) (content_of (reads new.files.disk))
   right_still =
       let cs = content_of (reads old.files.disk) in
-      subst (λ (l : List Chunk). AreRightTo new.channels new.number (log_next_id new) (last_part new) l) (sym keeps.content)
-      (subst (λ (m : ℕ). AreRightTo new.channels new.number (log_next_id new) m cs) (sym keeps.last)
-      (subst (λ (x : ℕ). AreRightTo new.channels new.number x (last_part old) cs) (sym keeps.next)
-      (subst (λ (j : ℕ). AreRightTo new.channels j (log_next_id old) (last_part old) cs) (sym keeps.number)
-      (subst (λ (n : ℕ). AreRightTo n old.number (log_next_id old) (last_part old) cs) (sym keeps.channels) was.right))))
+      subst (λ (l : List Chunk). AreRightTo new.channels new.number (ids_below new) (last_part new) l) (sym keeps.content)
+      (subst (λ (m : ℕ). AreRightTo new.channels new.number (ids_below new) m cs) (sym keeps.last)
+      (subst (λ (x : ℕ). AreRightTo new.channels new.number x (last_part old) cs) (sym (λ i. max (keeps.opened i) (keeps.next i)))
+      (subst (λ (j : ℕ). AreRightTo new.channels j (ids_below old) (last_part old) cs) (sym keeps.number)
+      (subst (λ (n : ℕ). AreRightTo n old.number (ids_below old) (last_part old) cs) (sym keeps.channels) was.right))))
 
   module _ (state : new.files.transactions.inventory.state ≡ old.files.transactions.inventory.state) where
     waits_still : HasBefore reads old → HasBefore reads new
@@ -143,11 +145,11 @@ module _ {D : Type 0} (reads : D → ℕ → List ℕ) (old new : ChannelState D
           some = subst (λ (m : ℕ). 1 ≤ m) (sym keeps.last) w.some;
           newest = ap (λ (s : State). newest_of s.entry) state ∙ w.newest ∙ sym keeps.last;
           right =
-              subst (λ (l : List Chunk). AreRightTo new.channels new.number (next_before new) (last_part new - 1) l) (sym keeps.content)
-              (subst (λ (m : ℕ). AreRightTo new.channels new.number (next_before new) (m - 1) cs) (sym keeps.last)
-              (subst (λ (s : State). AreRightTo new.channels new.number s.next_id_before (last_part old - 1) cs) (sym state)
-              (subst (λ (j : ℕ). AreRightTo new.channels j (next_before old) (last_part old - 1) cs) (sym keeps.number)
-              (subst (λ (n : ℕ). AreRightTo n old.number (next_before old) (last_part old - 1) cs) (sym keeps.channels) w.right))));
+              subst (λ (l : List Chunk). AreRightTo new.channels new.number (ids_below_before new) (last_part new - 1) l) (sym keeps.content)
+              (subst (λ (m : ℕ). AreRightTo new.channels new.number (ids_below_before new) (m - 1) cs) (sym keeps.last)
+              (subst (λ (x : ℕ). AreRightTo new.channels new.number x (last_part old - 1) cs) (sym (λ i. max (keeps.opened i) (state i).next_id_before))
+              (subst (λ (j : ℕ). AreRightTo new.channels j (ids_below_before old) (last_part old - 1) cs) (sym keeps.number)
+              (subst (λ (n : ℕ). AreRightTo n old.number (ids_below_before old) (last_part old - 1) cs) (sym keeps.channels) w.right))));
         }
 
     pub waits_same : new.files.confirmed ≢ last_part new → HasBefore reads new

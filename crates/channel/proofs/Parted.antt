@@ -1,4 +1,6 @@
 -- A channel after a part of a store, whatever was answered.
+use Rattle.std.specs.Prelude.{max}
+use Rattle.std.proofs.Math.Nat.{le_trans, le-max_left, max-eq_right}
 use Rattle.std.proofs.Common.{◌≡◌, ◌≤◌, ◌<◌, ℕ, ◌+◌, ◌-◌, ◌^◌, Bool, true, false, not, if◌then◌else◌, List, [], ◌∷◌, length, map, Option, Some, None, Result, Ok, Err, option_map, unwrap_or, IsTrue, IsSome, IfSome, IfErr, refl, sym, ap, subst, ◌∙◌, arith}
 use Rattle.std.specs.Prelude.{nat_lt, ◌==◌, IsErr, IsErrOf}
 use Rattle.std.specs.Option.{option_or}
@@ -40,7 +42,7 @@ use Rattle.channel.specs.State.{ChannelState}
 use Rattle.core_steps.specs.declared.unit.Ending.{Ending}
 use Rattle.core_steps.specs.Told.{Tried}
 use Rattle.core_steps.specs.Rows.{part_taken}
-use Rattle.channel.specs.Core.{core_of, last_part, log_next_id, next_before, place_with}
+use Rattle.channel.specs.Core.{core_of, ids_below, ids_below_before, last_part, log_next_id, place_with}
 use Rattle.channel.specs.OnDisk.{IsOnDisk, Stands, row_before}
 use Rattle.channel.specs.Sound.{IsRightRow, IsSound}
 use Rattle.channel.specs.Taking.{rows_behind, slot_for}
@@ -114,7 +116,7 @@ module _ {D : Type 0} (tells : Bool) (reads : D → ℕ → List ℕ) (leaves : 
   module _ (place : Place) (part : IsPart rs) (stored : IsStored tells reads leaves c.files files number (chunk_for rs) next (Ok place))
       (whole : IsTrue tells → HasWholeChunks (reads c.files.disk) → HasWholeChunks (reads files.disk))
       (place_live : 0 < length (chunk_for rs) → is_live files.transactions.inventory.state.files place.file ≡ true) (idle : is_idle (phase_in c.phase c.rows) ≡ true)
-      (number_is : number ≡ last_part c + 1) (le : log_next_id c ≤ next) (own : AllByRecursion (IsOwn c.channels c.number next) rs) where
+      (number_is : number ≡ last_part c + 1) (le : ids_below c ≤ next) (own : AllByRecursion (IsOwn c.channels c.number next) rs) where
     abbrev odd : Bool
     odd = parity_at c.phase
 
@@ -145,6 +147,9 @@ module _ {D : Type 0} (tells : Bool) (reads : D → ℕ → List ℕ) (leaves : 
       | Some s ↦ λ some. subst (IsRightRow with_part_stored id) (some_row (spot_row odd place.file s) row (sym (row_now id (Some s) some) ∙ is)) (right_spot id s some)
     ]) refl
 
+    low : c.opened_next_id ≤ next
+    low = le_trans (le-max_left c.opened_next_id (log_next_id c)) le
+
     stored_on_disk : IsTrue tells → c.failed ≡ false → IsOnDisk reads with_part_stored
     stored_on_disk told sound =
         let on = was.on_disk told sound in
@@ -166,20 +171,20 @@ module _ {D : Type 0} (tells : Bool) (reads : D → ℕ → List ℕ) (leaves : 
                 let more = content_of old ++ chunk_of number place (chunk_for rs) ∷ [] in
                 let m_is : last_part c ≡ last_part with_part_stored - 1 = omega (arith, last_stored, number_is) in
                 let s = c.files.transactions.inventory.state in
-                let next_is : log_next_id c ≡ next_before with_part_stored = sym (ap (λ (s : inventory.State). s.next_id_before) stored.state
-                ∙ head_next (length (chunk_for rs) == 0) (lacks_room s c.files.sizes.maximum) s) in
+                let next_is : ids_below c ≡ ids_below_before with_part_stored = ap (λ (x : ℕ). max c.opened_next_id x)
+                (sym (ap (λ (s : inventory.State). s.next_id_before) stored.state ∙ head_next (length (chunk_for rs) == 0) (lacks_room s c.files.sizes.maximum) s)) in
                 let same = up_to_before (last_part c) (content_of old) (chunk_of number place (chunk_for rs)) (omega (arith, number_is)) in
-                let there : AreRightTo c.channels c.number (log_next_id c) (last_part c) more = subst (AllByRecursion (λ (d : Chunk). IsRightChunk c.channels c.number (log_next_id c) d.bytes)) (sym same) on.right in
-                subst (λ (l : List Chunk). AreRightTo c.channels c.number (next_before with_part_stored) (last_part with_part_stored - 1) l) (sym (stored.content told))
-                (subst (λ (k : ℕ). AreRightTo c.channels c.number (next_before with_part_stored) k more) m_is
+                let there : AreRightTo c.channels c.number (ids_below c) (last_part c) more = subst (AllByRecursion (λ (d : Chunk). IsRightChunk c.channels c.number (ids_below c) d.bytes)) (sym same) on.right in
+                subst (λ (l : List Chunk). AreRightTo c.channels c.number (ids_below_before with_part_stored) (last_part with_part_stored - 1) l) (sym (stored.content told))
+                (subst (λ (k : ℕ). AreRightTo c.channels c.number (ids_below_before with_part_stored) k more) m_is
                 (subst (λ (x : ℕ). AreRightTo c.channels c.number x (last_part c) more) next_is there));
           };
           right =
-              subst (λ (l : List Chunk). AreRightTo c.channels c.number (log_next_id with_part_stored) (last_part with_part_stored) l) (sym (stored.content told))
-              (subst (λ (k : ℕ). AreRightTo c.channels c.number (log_next_id with_part_stored) k (content_of old ++ chunk_of number place (chunk_for rs) ∷ [])) (sym last_stored)
-              (subst (λ (x : ℕ). AreRightTo c.channels c.number x number (content_of old ++ chunk_of number place (chunk_for rs) ∷ [])) (sym (ap (λ (s : inventory.State). s.next_id) stored.state))
+              subst (λ (l : List Chunk). AreRightTo c.channels c.number (ids_below with_part_stored) (last_part with_part_stored) l) (sym (stored.content told))
+              (subst (λ (k : ℕ). AreRightTo c.channels c.number (ids_below with_part_stored) k (content_of old ++ chunk_of number place (chunk_for rs) ∷ [])) (sym last_stored)
+              (subst (λ (x : ℕ). AreRightTo c.channels c.number x number (content_of old ++ chunk_of number place (chunk_for rs) ∷ [])) (sym (ap (λ (s : inventory.State). max c.opened_next_id s.next_id) stored.state ∙ max-eq_right low))
               (subst (λ (k : ℕ). AreRightTo c.channels c.number next k (content_of old ++ chunk_of k place (chunk_for rs) ∷ [])) (sym number_is)
-              (right_with_part c.channels c.number (last_part c) (log_next_id c) next (content_of old) place rs part own (all_read_to reads c on) on.right le))));
+              (right_with_part c.channels c.number (last_part c) (ids_below c) next (content_of old) place rs part own (all_read_to reads c on) on.right le))));
         }
 
     pub sound_stored : IsSound tells reads with_part_stored
@@ -222,7 +227,7 @@ module _ {D : Type 0} (tells : Bool) (reads : D → ℕ → List ℕ) (leaves : 
         let on = was.on_disk told sound in
         let content = subst (λ (f : FilesFault). IsFaultOrFull (λ n. content_of (reads files.disk) ≡ content_of (reads c.files.disk)) f) full (stored.content_kept told) in
         let of_disk = subst (λ (f : FilesFault). UnlessFault {A = Place} (Err f) (IsOfDisk files.transactions (reads files.disk))) full (stored.of_disk told) in
-        let keeps : KeepsRows reads c with_part_refused = record { content = content; last = last_same; confirmed = confirmed_same; rows = refl; replaced = refl; phase = refl; next = next_same; number = refl; channels = refl } in
+        let keeps : KeepsRows reads c with_part_refused = record { content = content; last = last_same; confirmed = confirmed_same; rows = refl; replaced = refl; phase = refl; next = next_same; opened = refl; number = refl; channels = refl } in
         on_disk_still reads c with_part_refused keeps on of_disk (types_still told on) (λ unconfirmed. absurd (unconfirmed (confirmed_same ∙ confirmed_is ∙ sym last_same)))
 
     pub sound_refused_part : (IsTrue tells → failed ≡ false → IsOnDisk reads with_part_refused) → IsSound tells reads with_part_refused

@@ -66,6 +66,7 @@ module _ {D : Type 0} (tells : Bool) (reads : D → ℕ → List ℕ) (c : Chann
     phase = refl;
     next = ap (λ (s : State). s.next_id) same.state;
     number = refl;
+    opened = refl;
     channels = refl;
   }
 

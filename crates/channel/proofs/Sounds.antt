@@ -59,6 +59,7 @@ module _ {D : Type 0} (old : ChannelState D) (files : Channel D) (types : Option
     phase = refl;
     next = ap (λ (t : Transactions). t.inventory.state.next_id) same.transactions;
     number = refl;
+    opened = refl;
     channels = refl;
   }
 

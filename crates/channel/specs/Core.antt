@@ -1,5 +1,5 @@
 -- What a channel stands for in the core, and what it tells of itself.
-use Rattle.std.specs.Prelude.{ℕ, ◌-◌, ◌^◌, Bool, false, cond, ◌||◌, nat_lt, nat_le, List, [], take, drop, map, Option, Some, None}
+use Rattle.std.specs.Prelude.{ℕ, ◌-◌, ◌^◌, max, Bool, false, cond, ◌||◌, nat_lt, nat_le, List, [], take, drop, map, Option, Some, None}
 use Rattle.std.specs.Ordering.{nat_cmp}
 use Rattle.std.specs.FinMap.{FinMap, entries}
 use Rattle.gated_log.specs.State.{LogState}
@@ -54,6 +54,14 @@ module _ {D : Type 0} where
   -- the next id in front of the log's last entry
   abbrev pub next_before : ChannelState D → ℕ
   next_before c = c.files.transactions.inventory.state.next_id_before
+
+  -- the ids of its entities are below this: what the log says, or what other channels' logs said when it was opened
+  abbrev pub ids_below : ChannelState D → ℕ
+  ids_below c = max c.opened_next_id (log_next_id c)
+
+  -- and in front of the log's last entry
+  abbrev pub ids_below_before : ChannelState D → ℕ
+  ids_below_before c = max c.opened_next_id (next_before c)
 
   -- the channel of the core: what is marked, grey and left to visit stands in the rows
   abbrev pub core_of : (D → ℕ → List ℕ) → ChannelState D → CoreChannel

@@ -2,7 +2,7 @@
 use Rattle.std.specs.Prelude.{◌≡◌, ◌≢◌, ◌⊎◌, ℕ, ◌-◌, Bool, true, false, IsTrue, IsSomeAnd, List, [], ◌∷◌, ◌++◌, Option, Some, None}
 use Rattle.store_io.specs.Whole.{EachImage}
 use Rattle.core_steps.specs.Told.{Tried, TriedPart, TriedType}
-use Rattle.channel.specs.Core.{last_part, log_next_id, next_before, types_kept}
+use Rattle.channel.specs.Core.{ids_below, ids_below_before, last_part, types_kept}
 use Rattle.channel.specs.Images.{log_header}
 use Rattle.channel.specs.Shown.{EndsAt, HasPart, ShowsAt, disk_before, disk_held}
 use Rattle.channel.specs.OnDisk.{AgreesWithImages, HoldsChannel, HoldsPart, HoldsWith}
@@ -20,14 +20,14 @@ HoldsOrTried reads c image = HoldsChannel reads c image ⊎ HoldsTried reads c c
 
 -- the image ends with what the disk holds, and while the last part is not confirmed shows what it held before that
 pub record EndsAsHeld {D : Type 0} (reads : D → ℕ → List ℕ) (c : ChannelState D) (image : ℕ → List ℕ) : Type 0 where
-  pub ends : EndsAt c.channels c.number (last_part c) (log_next_id c) (disk_held reads c) image
-  pub before : c.files.confirmed ≢ last_part c → ShowsAt c.channels c.number (last_part c - 1) (next_before c) (disk_before reads c) image
+  pub ends : EndsAt c.channels c.number (last_part c) (ids_below c) (disk_held reads c) image
+  pub before : c.files.confirmed ≢ last_part c → ShowsAt c.channels c.number (last_part c - 1) (ids_below_before c) (disk_before reads c) image
 
 -- the image has the part that was tried in vain, behind what the disk holds
 abbrev pub HasTriedPart : {D : Type 0} → (D → ℕ → List ℕ) → ChannelState D → Option Tried → (ℕ → List ℕ) → Type 0
 HasTriedPart reads c None image = ⊥
 HasTriedPart reads c (Some (TriedPart number next_id)) image =
-    IsSomeAnd c.prepared (λ part. HasPart c.channels c.number (last_part c) (log_next_id c) part next_id (disk_held reads c) image)
+    IsSomeAnd c.prepared (λ part. HasPart c.channels c.number (last_part c) (ids_below c) part next_id (disk_held reads c) image)
 HasTriedPart reads c (Some (TriedType text)) image = ⊥
 
 abbrev pub EndsOrTried : {D : Type 0} → (D → ℕ → List ℕ) → ChannelState D → (ℕ → List ℕ) → Type 0

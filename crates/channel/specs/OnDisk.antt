@@ -18,7 +18,7 @@ use Rattle.channel.specs.declared.part.Slot.{Slot}
 use Rattle.channel.specs.ChunkRule.{AreRightTo}
 use Rattle.channel.specs.Entities.{entity_in}
 use Rattle.channel.specs.State.{ChannelState}
-use Rattle.channel.specs.Core.{bytes_at, last_part, log_next_id, next_before, core_of, types_kept}
+use Rattle.channel.specs.Core.{bytes_at, ids_below, ids_below_before, last_part, log_next_id, core_of, types_kept}
 
 -- the entity of an id stands where the row says, is the last one of it in the chunks up to this number, and begins with the row's header
 pub record Stands (reads : ℕ → List ℕ) (number id : ℕ) (row : Row) : Type 0 where
@@ -34,7 +34,7 @@ row_before (s ∷ slots) id row = if s.header.id == id then s.before else row_be
 pub record HasBefore {D : Type 0} (reads : D → ℕ → List ℕ) (c : ChannelState D) : Type 0 where
   pub some : 1 ≤ last_part c
   pub newest : newest_of c.files.transactions.inventory.state.entry ≡ last_part c
-  pub right : AreRightTo c.channels c.number (next_before c) (last_part c - 1) (content_of (reads c.files.disk))
+  pub right : AreRightTo c.channels c.number (ids_below_before c) (last_part c - 1) (content_of (reads c.files.disk))
 
 -- what is read is what the channel keeps
 pub record IsOnDisk {D : Type 0} (reads : D → ℕ → List ℕ) (c : ChannelState D) : Type 0 where
@@ -47,7 +47,7 @@ pub record IsOnDisk {D : Type 0} (reads : D → ℕ → List ℕ) (c : ChannelSt
   pub types : IfSome c.types (λ log. IsOf log (reads c.files.disk 1))
   pub waits : c.files.confirmed ≢ last_part c → HasBefore reads c
   -- the chunks keep the rule
-  pub right : AreRightTo c.channels c.number (log_next_id c) (last_part c) (content_of (reads c.files.disk))
+  pub right : AreRightTo c.channels c.number (ids_below c) (last_part c) (content_of (reads c.files.disk))
 
 -- each image has the logs that are read, and below the inventory's lengths the bytes that are read
 pub record AgreesWithImages {D : Type 0} (reads : D → ℕ → List ℕ) (leaves : D → ℕ → List ℕ → Bool) (c : ChannelState D) : Type 0 where

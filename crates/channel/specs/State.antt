@@ -14,6 +14,8 @@ use Rattle.channel.specs.declared.phase.Stage.{Stage}
 pub record ChannelState (D : Type 0) : Type 0 where
   pub number : ℕ
   pub channels : ℕ
+  -- the next id of the storage when the channel was opened, which that of its own log may be below
+  pub opened_next_id : ℕ
   pub files : Channel D
   -- the log of type records, on channel 0
   pub types : Option LogState

@@ -49,6 +49,8 @@ pub struct Channel<D: Disk> {
     pub(crate) alloc: Global,
     pub(crate) number: u32,
     pub(crate) count: u32,
+    /// The next id of the storage when the channel was opened: the greatest of all channels' logs.
+    pub(crate) opened_next_id: u64,
     pub(crate) files: ChannelFiles<D>,
     /// The log of type records, on channel 0.
     pub(crate) types: Option<GatedLog>,
@@ -82,6 +84,7 @@ impl<D: Disk> Model for Channel<D> {
     ghost view = { λ c. record {
       number = c.number;
       channels = c.count;
+      opened_next_id = c.opened_next_id;
       files = c.files;
       types = c.types;
       rows = c.index.contents;
@@ -97,6 +100,7 @@ impl<D: Disk> Model for Channel<D> {
     ghost invariant = { λ c. let state : ChannelState D = record {
       number = c.number;
       channels = c.count;
+      opened_next_id = c.opened_next_id;
       files = c.files;
       types = c.types;
       rows = c.index.contents;
@@ -125,6 +129,7 @@ impl<D: Disk> Channel<D> {
         types: Option<GatedLog>,
         number: u32,
         count: u32,
+        next_id: u64,
         sizes: Sizes,
     ) -> Result<Channel<D>, NewChannel<D>>
         requires number { number < count }
@@ -136,7 +141,9 @@ impl<D: Disk> Channel<D> {
         requires whole { IsTrue D.tells → HasWholeChunks (D.reads disk) }
         requires types_of_disk { IsTrue D.tells → IfSome types (λ log. IsOf log (D.reads disk 1)) }
         requires header { log.log.header ≡ log_header count number }
-        requires right { IsTrue D.tells → AreRightTo count number log.inventory.state.next_id log.inventory.state.last (content_of (D.reads disk)) }
+        // The storage's next id, the greatest of all channels' logs, bounds the ids here.
+        requires next_id { log.inventory.state.next_id ≤ next_id }
+        requires right { IsTrue D.tells → AreRightTo count number next_id log.inventory.state.last (content_of (D.reads disk)) }
         // A stop leaves the logs that are read, and below the inventory's lengths the bytes that are read.
         requires as_read { IsTrue D.tells → EachAsRead log (D.reads disk) (D.leaves disk) }
         requires types_as_read { IsTrue D.tells → IfSome types (λ log. Each (D.leaves disk 1) (IsLogOf log.header (payloads_of (D.reads disk 1)))) }
@@ -144,6 +151,7 @@ impl<D: Disk> Channel<D> {
         ensures ok { IfOk result (λ c. c ≡ record {
           number = number;
           channels = count;
+          opened_next_id = next_id;
           files = record { disk = disk; transactions = log; sizes = sizes; confirmed = log.inventory.state.last };
           types = types;
           rows = finite.empty;
@@ -164,6 +172,7 @@ impl<D: Disk> Channel<D> {
             alloc,
             number,
             count,
+            opened_next_id: next_id,
             files: ChannelFiles::new(disk, log, sizes),
             types,
             index: EntityIndex::new(alloc),

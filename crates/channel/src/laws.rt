@@ -8,7 +8,7 @@ ghost use Rattle.channel_files.specs.Heads.{chunk_of};
 ghost use Rattle.channel.specs.ChunkRule.{AllUpTo, AreRightTo, IsOwn};
 ghost use Rattle.channel.specs.Entities.{chunk_for};
 ghost use Rattle.channel.specs.Parts.{IsPart};
-ghost use Rattle.channel.specs.Core.{last_part, log_next_id};
+ghost use Rattle.channel.specs.Core.{ids_below, last_part, log_next_id};
 ghost use Rattle.channel.specs.Holding.{AreAlike, HasGained, Holding, KeepsHolding, holding};
 ghost use Rattle.channel.specs.Images.{Image};
 ghost use Rattle.channel.specs.Left.{EndsAsHeld};
@@ -28,14 +28,14 @@ pub fn parts_keep_the_rule()
 /// without the channel's part of the open store or with it, and the tie outlasts each call.
 pub fn images_follow_what_is_held<D: Disk>()
     // Without its part of the open store.
-    ensures ended { (c : ChannelState D) (d : DiskTable) (most : ℕ) (image : Image) → AreAlike (holding D.reads c).held d → log_next_id c ≤ most → EndsAsHeld D.reads c image
+    ensures ended { (c : ChannelState D) (d : DiskTable) (most : ℕ) (image : Image) → AreAlike (holding D.reads c).held d → c.opened_next_id ≤ most → log_next_id c ≤ most → EndsAsHeld D.reads c image
         → EndsAt c.channels c.number (last_part c) most d image }
     // With it.
     ensures opened { (c : ChannelState D) (d : DiskTable) (m next_id most : ℕ) (part : List Record) (image : Image) → last_part c ≡ m + 1 → HasGained part next_id d (holding D.reads c)
-        → d.next_id ≤ most → EndsAsHeld D.reads c image → HasPart c.channels c.number m most part next_id d image }
+        → c.opened_next_id ≤ most → d.next_id ≤ most → most ≤ next_id → EndsAsHeld D.reads c image → HasPart c.channels c.number m most part next_id d image }
     // With a part that was tried in vain.
-    ensures tried { (c : ChannelState D) (d : DiskTable) (next_id most : ℕ) (part : List Record) (image : Image) → AreAlike (holding D.reads c).held d → log_next_id c ≤ most
-        → HasPart c.channels c.number (last_part c) (log_next_id c) part next_id (disk_held D.reads c) image → HasPart c.channels c.number (last_part c) most part next_id d image }
+    ensures tried { (c : ChannelState D) (d : DiskTable) (next_id most : ℕ) (part : List Record) (image : Image) → AreAlike (holding D.reads c).held d → c.opened_next_id ≤ most → log_next_id c ≤ most
+        → HasPart c.channels c.number (last_part c) (ids_below c) part next_id (disk_held D.reads c) image → HasPart c.channels c.number (last_part c) most part next_id d image }
     // A call that keeps what is held, and one that stores the part.
     ensures stays { (d : DiskTable) (old new : Holding) → KeepsHolding old new → AreAlike old.held d → AreAlike new.held d }
     ensures stays_opened { (part : List Record) (next_id : ℕ) (d : DiskTable) (old new : Holding) → KeepsHolding old new → HasGained part next_id d old → HasGained part next_id d new }

@@ -12,7 +12,7 @@ ghost use Rattle.core_steps.specs.Rows.{channel_step};
 ghost use Rattle.core_steps.specs.Told.{TriedPart};
 ghost use Rattle.core_hands.specs.OpenStores.{number_of, channels_of};
 ghost use Rattle.channel.specs.Given.{HasGiven};
-ghost use Rattle.channel.specs.Core.{core_of, last_part, log_next_id, place_with, told_of};
+ghost use Rattle.channel.specs.Core.{core_of, ids_below, last_part, log_next_id, place_with, told_of};
 ghost use Rattle.channel.specs.Turns.{IsTurn};
 ghost use Rattle.channel.specs.Holding.{HasGained, KeepsHolding, holding};
 ghost use Rattle.channel.specs.Faults.{IsFaultOrFull, UnlessFault, ending_after, failed_after};
@@ -94,7 +94,7 @@ impl<D: Disk> Channel<D> {
         // A channel that marks or sweeps gets its part by what a later stage adds.
         requires idle { is_idle (core_of D.reads self.old).phase ≡ true }
         requires credit { IfSome self.old.prepared (λ part. length part ≤ hand.old.credit) }
-        requires next_id { log_next_id self.old ≤ next_id }
+        requires next_id { ids_below self.old ≤ next_id }
         // The records are this channel's.
         requires own { IfSome self.old.prepared (AllByRecursion (IsOwn self.old.channels self.old.number next_id)) }
         requires next_id_limit { next_id ≤ 2 ^ 48 }
@@ -122,8 +122,8 @@ impl<D: Disk> Channel<D> {
             → EachImage (D.leaves self.new.files.disk) (λ image. HoldsChannel D.reads self.old image ⊎ IfSome self.old.prepared (λ part. HoldsPart D.reads self.old number next_id part image)) }
         // So it is with its chunks.
         ensures parts { IsTrue D.tells → self.old.failed ≡ false
-            → EachImage (D.leaves self.new.files.disk) (λ image. EndsAt self.old.channels self.old.number (last_part self.old) (log_next_id self.old) (disk_held D.reads self.old) image
-            ⊎ IfSome self.old.prepared (λ part. HasPart self.old.channels self.old.number (last_part self.old) (log_next_id self.old) part next_id (disk_held D.reads self.old) image)) }
+            → EachImage (D.leaves self.new.files.disk) (λ image. EndsAt self.old.channels self.old.number (last_part self.old) (ids_below self.old) (disk_held D.reads self.old) image
+            ⊎ IfSome self.old.prepared (λ part. HasPart self.old.channels self.old.number (last_part self.old) (ids_below self.old) part next_id (disk_held D.reads self.old) image)) }
         ensures content { IsTrue D.tells → OnOk result (IfSome self.old.prepared (λ part. (place : AnyPlace) × (content_of (D.reads self.new.files.disk) ≡ content_of (D.reads self.old.files.disk) ++ chunk_of number place (chunk_for part) ∷ []))) }
         // The disk gains the part over what it held.
         ensures gained { IsTrue D.tells → OnOk result (IfSome self.old.prepared (λ part. HasGained part next_id (holding D.reads self.old).held (holding D.reads self.new))) }

@@ -5,7 +5,7 @@ ghost use Rattle.store_io.specs.Whole.{EachImage};
 ghost use Rattle.core_steps.specs.Told.{TriedType};
 ghost use Rattle.channel_files.specs.Heads.{full_record};
 ghost use Rattle.channel_files.specs.Chunks.{content_of};
-ghost use Rattle.channel.specs.Core.{core_of, last_part, log_next_id, told_of, types_kept};
+ghost use Rattle.channel.specs.Core.{core_of, ids_below, last_part, told_of, types_kept};
 ghost use Rattle.channel.specs.Turns.{IsTurn};
 ghost use Rattle.channel.specs.Holding.{holding};
 ghost use Rattle.channel.specs.Shown.{EndsAt, disk_held};
@@ -43,7 +43,7 @@ impl<D: Disk> Channel<D> {
         // The chunks that are read stay, and each image ends with what the disk held.
         ensures content { IsTrue D.tells → content_of (D.reads self.new.files.disk) ≡ content_of (D.reads self.old.files.disk) }
         ensures ends { IsTrue D.tells → self.old.failed ≡ false
-            → EachImage (D.leaves self.new.files.disk) (EndsAt self.old.channels self.old.number (last_part self.old) (log_next_id self.old) (disk_held D.reads self.old)) }
+            → EachImage (D.leaves self.new.files.disk) (EndsAt self.old.channels self.old.number (last_part self.old) (ids_below self.old) (disk_held D.reads self.old)) }
         ensures turn { IsTurn (told_of D.tells D.reads D.faults self.old) (told_of D.tells D.reads D.faults self.new) }
         ensures holding { IsTrue D.tells → holding D.reads self.new ≡ holding D.reads self.old }
         ensures types_header { IfSome self.old.types (λ log. IsSomeAnd self.new.types (λ after. IsSameLog log after)) }

@@ -1,5 +1,5 @@
 //! An entity is read where it stands.
-ghost use Rattle.std.specs.Prelude.{◌≡◌, ◌≤◌, ◌+◌, IsTrue, length, take, drop, OnOk, OnErr, IsErrOf};
+ghost use Rattle.std.specs.Prelude.{◌≡◌, ◌≢◌, ◌≤◌, ◌+◌, IsTrue, length, take, drop, OnOk, OnErr, IfErr, IsErrOf};
 ghost use Rattle.call_counts.specs.Counts.{Rose, raised};
 ghost use Rattle.data_file.specs.Headers.{BeginsWith, IsHeaderAt};
 
@@ -86,6 +86,7 @@ pub fn read_entity<D: Disk>(
     ensures faults { D.faults disk.old ≤ D.faults disk.new }
     ensures cause { IsErrOf result ReadFault.Fault → Rose (D.faults disk.old) (D.faults disk.new) }
     ensures calm { OnOk result (D.faults disk.new ≡ D.faults disk.old) }
+    ensures calm_fault { IfErr result (λ e. e ≢ ReadFault.Fault → D.faults disk.new ≡ D.faults disk.old) }
     ensures read_calls { D.read_calls disk.new ≡ raised (D.read_calls disk.old) }
 {
     read_front(disk, file, at, header.length as usize, out)?;

@@ -1,5 +1,5 @@
 //! A chunk is walked from header to header, without reading the bodies.
-ghost use Rattle.std.specs.Prelude.{◌≡◌, ◌≤◌, ◌<◌, ◌+◌, ◌^◌, ◌↔◌, ℕ, Ok, None, IsTrue, length, OnErr, IfOk, IfSome, IfNone, IsErrOf, OnOk};
+ghost use Rattle.std.specs.Prelude.{◌≡◌, ◌≢◌, ◌≤◌, ◌<◌, ◌+◌, ◌^◌, ◌↔◌, ℕ, Ok, None, IsTrue, length, OnErr, IfOk, IfErr, IfSome, IfNone, IsErrOf, OnOk};
 ghost use Rattle.call_counts.specs.Counts.{Rose, raised};
 ghost use Rattle.data_file.specs.Headers.{IsHeaderAt};
 ghost use Rattle.data_file.specs.Rule.{is_own_id, keeps_rule, IsEntityAt};
@@ -121,6 +121,7 @@ pub fn next_header<D: Disk>(disk: &mut D, walk: &mut ChunkWalk) -> Result<Option
     ensures faults { D.faults disk.old ≤ D.faults disk.new }
     ensures cause { IsErrOf result WalkFault.Fault → Rose (D.faults disk.old) (D.faults disk.new) }
     ensures calm { OnOk result (D.faults disk.new ≡ D.faults disk.old) }
+    ensures calm_fault { IfErr result (λ e. e ≢ WalkFault.Fault → D.faults disk.new ≡ D.faults disk.old) }
     // Each header takes one read.
     ensures read_calls { IfOk result (λ o. IfSome o (λ _. D.read_calls disk.new ≡ raised (D.read_calls disk.old))) }
 {

@@ -66,6 +66,14 @@ impl Opening {
         self.count
     }
 
+    /// The bytes that the log will have up to the place behind the last gate, once `finish` has opened it.
+    pub fn length(&self) -> u64
+        ensures whole { 9 < self.now.len → result ≡ self.now.at + 1 }
+        ensures short { self.now.len ≤ 9 → result ≡ 9 }
+    {
+        if self.len <= 9 { 9 } else { self.at + 1 }
+    }
+
     /// The next payload, put at the front of the window, and its length; none at the log's end.
     /// Nothing is written. The window has at least 1,048,576 bytes.
     pub fn next<D: Disk>(
@@ -91,6 +99,7 @@ impl Opening {
         ensures not_header { IsErrOf result LogFault.Header → ⊥ }
         ensures cause { IsErrOf result LogFault.Fault → Rose (D.faults disk.old) (D.faults disk.new) }
         ensures calm { OnOk result (D.faults disk.new ≡ D.faults disk.old) }
+        ensures calm_fault { IfErr result (λ e. e ≢ LogFault.Fault → D.faults disk.new ≡ D.faults disk.old) }
 
         ensures onward { IfOk result (λ o. IfSome o (λ n. (self.new.at ≡ self.old.at + 5 + n) × (self.new.at < self.new.len))) }
         ensures counted { IfOk result (λ o. IfSome o (λ _. self.new.count ≡ self.old.count + 1)) }

@@ -1,5 +1,5 @@
 // The begin of an opening.
-ghost use Rattle.std.specs.Prelude.{◌≡◌, ◌≢◌, ◌<◌, ◌≤◌, ◌+◌, ℕ, List, IsTrue, length, take, IfOk, IsErrOf, OnOk};
+ghost use Rattle.std.specs.Prelude.{◌≡◌, ◌≢◌, ◌<◌, ◌≤◌, ◌+◌, ℕ, List, IsTrue, length, take, IfOk, IfErr, IsErrOf, OnOk};
 ghost use Rattle.call_counts.specs.Counts.{Rose};
 ghost use Rattle.gated_log.specs.Log.{payloads_of};
 ghost use Rattle.gated_log.specs.Reading.{IsReading, rest_of};
@@ -20,6 +20,7 @@ pub fn begin<D: Disk>(disk: &mut D, file: u32, header: [u8; 8]) -> Result<Openin
     ensures not_cut { (at : ℕ) → IsErrOf result (LogFault.Cut at) → ⊥ }
     ensures cause { IsErrOf result LogFault.Fault → Rose (D.faults disk.old) (D.faults disk.new) }
     ensures calm { OnOk result (D.faults disk.new ≡ D.faults disk.old) }
+    ensures calm_fault { IfErr result (λ e. e ≢ LogFault.Fault → D.faults disk.new ≡ D.faults disk.old) }
 
     ensures reads { IsTrue D.tells → D.reads disk.new ≡ D.reads disk.old }
     ensures leaves { IsTrue D.tells → D.leaves disk.new ≡ D.leaves disk.old }

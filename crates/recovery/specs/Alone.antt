@@ -1,5 +1,5 @@
 -- A storage on one thread: how its channels, its monitor and its hand stand for a core, and what its images are then.
-use Rattle.std.specs.Prelude.{◌≡◌, ◌⊎◌, ℕ, ◌+◌, Bool, false, List, [], ◌∷◌, ◌++◌, length, map, slice_get, Some, None, IfOk, OnErr, Result}
+use Rattle.std.specs.Prelude.{◌≡◌, ◌≤◌, ◌⊎◌, ℕ, ◌+◌, Bool, false, List, [], ◌∷◌, ◌++◌, length, map, slice_get, Some, None, IfOk, OnErr, Result}
 use Rattle.graph_model.specs.Graph.{put_all}
 use Rattle.graph_model.specs.Served.{Served, Storage}
 use Rattle.graph_model.specs.declared.ask.Ask.{Ask}
@@ -65,6 +65,8 @@ module _ {D : Type 0} (reads : D → ℕ → List ℕ) (leaves : D → ℕ → L
     pub stands : Stands s b disks kept kept
     pub none_open : b.opened ≡ None
     pub ready : (j : ℕ) (c : ChannelState D) → slice_get s.channels j ≡ Some c → IsReady (length s.channels) j c
+    -- the next id with which a channel was opened is not above that of the last store
+    pub opened : (j : ℕ) (c : ChannelState D) → slice_get s.channels j ≡ Some c → c.opened_next_id ≤ next_before b
 
   -- SERVING
 

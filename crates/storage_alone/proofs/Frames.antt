@@ -1,5 +1,5 @@
 -- A call that leaves stores and disks alone leaves a storage that stands and serves.
-use Rattle.std.proofs.Common.{◌≡◌, ◌⊎◌, ℕ, Bool, false, List, length, map, Option, Some, sym, subst, ◌∙◌}
+use Rattle.std.proofs.Common.{◌≡◌, ◌≤◌, ◌⊎◌, ℕ, Bool, false, List, length, map, Option, Some, sym, subst, ◌∙◌}
 use Rattle.std.specs.Prelude.{slice_get}
 use Rattle.std.proofs.lemmas.List.{length-map}
 use Rattle.store_io.specs.Whole.{EachImage, IsImage}
@@ -25,11 +25,16 @@ ImageWith n o m b j d image = ((has j (written_of o) ≡ false) × EndsAt n j m 
     ⊎ ((op : StoreOp) × (b.opened ≡ Some op) × HasPart n j m (next_before b) (part_in n b j) op.next_id d image)
 
 module _ {D : Type 0} (reads : D → ℕ → List ℕ) (leaves : D → ℕ → List ℕ → Bool) where
-  -- channel j leaves what it left
+  -- the channel leaves what it left, and is bounded by the same next id
+  pub record StaysOnDisk (c d : ChannelState D) : Type 0 where
+    pub left : leaves d.files.disk ≡ leaves c.files.disk
+    pub opened : d.opened_next_id ≡ c.opened_next_id
+
+  -- channel j is as it was on its disk
   pub record Stayed (s : AloneState D) (j : ℕ) (d : ChannelState D) : Type 0 where
     pub was : ChannelState D
     pub there : slice_get s.channels j ≡ Some was
-    pub left : leaves d.files.disk ≡ leaves was.files.disk
+    pub stays : StaysOnDisk was d
 
   -- so does each channel, and the stores are those that were
   pub record GoesOnAs (s t : AloneState D) : Type 0 where
@@ -55,7 +60,7 @@ module _ {D : Type 0} (reads : D → ℕ → List ℕ) (leaves : D → ℕ → L
       → (j : ℕ) (d : ChannelState D) → slice_get t.channels j ≡ Some d → EachImage (leaves d.files.disk) (IsImageFor (core_with reads leaves t b) j (disks j))
   images_left s t b disks kept tried stands on j d there image is =
       let w = on.channels j d there in
-      image_for s t b j (disks j) image on (stands.images j w.was w.there image (subst (λ (l : ℕ → List ℕ → Bool). IsImage l image) w.left is))
+      image_for s t b j (disks j) image on (stands.images j w.was w.there image (subst (λ (l : ℕ → List ℕ → Bool). IsImage l image) w.stays.left is))
 
   types_left : (s t : AloneState D) (b : Book) (disks : ℕ → DiskTable) (kept tried : List TypeDesc) → Stands reads leaves s b disks kept tried → GoesOnAs s t
       → (d : ChannelState D) → slice_get t.channels 0 ≡ Some d
@@ -63,7 +68,7 @@ module _ {D : Type 0} (reads : D → ℕ → List ℕ) (leaves : D → ℕ → L
   types_left s t b disks kept tried stands on d there image is =
       let w = on.channels 0 d there in
       subst (λ (n : ℕ). HasTypes n image kept ⊎ HasTypes n image tried) (sym on.many)
-      (stands.types w.was w.there image (subst (λ (l : ℕ → List ℕ → Bool). IsImage l image) w.left is))
+      (stands.types w.was w.there image (subst (λ (l : ℕ → List ℕ → Bool). IsImage l image) w.stays.left is))
 
   pub stands_on : (s t : AloneState D) (b : Book) (disks : ℕ → DiskTable) (kept tried : List TypeDesc) → Stands reads leaves s b disks kept tried
       → IsGood (core_with reads leaves t b) → StandFor (core_with reads leaves t b) disks → GoesOnAs s t → Stands reads leaves t b disks kept tried
@@ -85,4 +90,5 @@ module _ {D : Type 0} (reads : D → ℕ → List ℕ) (leaves : D → ℕ → L
     none_open = serves.none_open;
     ready = λ j d there. let w = steady.channels j d there in
         record { number = w.number; channels = w.channels; sound = w.unfailed; confirmed = w.confirmed_is ∙ sym w.last_is; none_ready = w.ready_is };
+    opened = λ j d there. let w = on.channels j d there in subst (λ (n : ℕ). n ≤ next_before b) (sym w.stays.opened) (serves.opened j w.was w.there);
   }

@@ -28,7 +28,7 @@ use Rattle.storage_alone.specs.Asks.{held_by}
 use Rattle.storage_alone.specs.Steady.{IsSteady}
 use Rattle.storage_alone.specs.Holding.{HoldsNoLonger, HoldsToo}
 use Rattle.storage_alone.proofs.Events.{alone_at, channel_step_made, monitor_step_made, set_at, with_channel, with_monitor}
-use Rattle.storage_alone.proofs.Frames.{GoesOnAs, Stayed, serves_on}
+use Rattle.storage_alone.proofs.Frames.{GoesOnAs, Stayed, StaysOnDisk, serves_on}
 use Rattle.storage_alone.proofs.Pinned.{PaysOnly, pin_made, reserved, returned, unpin_made}
 use Rattle.storage_alone.proofs.HeldIds.{ChangedAt, held_added, held_removed, removed_gone}
 
@@ -111,19 +111,19 @@ module _ {D : Type 0} (reads : D → ℕ → List ℕ) (leaves : D → ℕ → L
       (slice_get-map (λ (x : ChannelState D). core_of reads x) s.channels j
       ∙ ap (λ (o : Option (ChannelState D)). option_map (λ (x : ChannelState D). core_of reads x) o) there)
 
-  stayed_at : (s : AloneState D) (j : ℕ) (c d : ChannelState D) → slice_get s.channels j ≡ Some c → leaves d.files.disk ≡ leaves c.files.disk
+  stayed_at : (s : AloneState D) (j : ℕ) (c d : ChannelState D) → slice_get s.channels j ≡ Some c → StaysOnDisk reads leaves c d
       → (i : ℕ) (x : ChannelState D) → slice_get (set s.channels j d) i ≡ Some x → Stayed reads leaves s i x
   stayed_at s j c d there left i x is = ⊎_elim
       (λ t. record {
         was = c;
         there = subst (λ (k : ℕ). slice_get s.channels k ≡ Some c) (sym t.0) there;
-        left = subst (λ (z : ChannelState D). leaves z.files.disk ≡ leaves c.files.disk) (sym t.1) left;
+        stays = subst (λ (z : ChannelState D). StaysOnDisk reads leaves c z) (sym t.1) left;
       })
-      (λ t. record { was = x; there = t.1; left = refl })
+      (λ t. record { was = x; there = t.1; stays = record { left = refl; opened = refl } })
       (set_at s.channels j i d c x there is)
 
   -- the storage goes on as before once a channel that leaves what it left, monitor and hand have changed
-  pub goes_on : (s : AloneState D) (j : ℕ) (c d : ChannelState D) (m : CoreMonitor) (h : Hand) → slice_get s.channels j ≡ Some c → leaves d.files.disk ≡ leaves c.files.disk
+  pub goes_on : (s : AloneState D) (j : ℕ) (c d : ChannelState D) (m : CoreMonitor) (h : Hand) → slice_get s.channels j ≡ Some c → StaysOnDisk reads leaves c d
       → PaysOnly s.monitor s.hand m h → GoesOnAs reads leaves s (record { channels = set s.channels j d; monitor = m; hand = h })
   goes_on s j c d m h there left pays = record {
     many = length-set s.channels j d;
@@ -153,7 +153,7 @@ module _ {D : Type 0} (reads : D → ℕ → List ℕ) (leaves : D → ℕ → L
 
   pub held_too : (law : StandsOn) (s : AloneState D) (b : Book) (disks : ℕ → DiskTable) (kept : List TypeDesc) (j : ℕ) (c d : ChannelState D) (id n : ℕ) (m1 m2 : CoreMonitor) (h1 h2 h3 : Hand)
       → Serves reads leaves s b disks kept → IsPlaced s j c → home (length s.channels) id ≡ j → is_idle (core_of reads c).phase ≡ true
-      → may_hold (graph b) (held_by reads s) id ≡ true → leaves d.files.disk ≡ leaves c.files.disk
+      → may_hold (graph b) (held_by reads s) id ≡ true → StaysOnDisk reads leaves c d
       → monitor_step s.monitor s.hand (Reserve 1) ≡ Some (m1, h1)
       → ((part : List Record) → channel_step (place_with c part) (core_of reads c) h1 (Pin id) ≡ Some (core_of reads d, h2))
       → monitor_step m1 h2 (Return n) ≡ Some (m2, h3)
@@ -188,7 +188,7 @@ module _ {D : Type 0} (reads : D → ℕ → List ℕ) (leaves : D → ℕ → L
       }
 
   pub held_no_longer : (law : StandsOn) (s : AloneState D) (b : Book) (disks : ℕ → DiskTable) (kept : List TypeDesc) (j : ℕ) (c d : ChannelState D) (id : ℕ) (h1 : Hand)
-      → Serves reads leaves s b disks kept → IsPlaced s j c → home (length s.channels) id ≡ j → leaves d.files.disk ≡ leaves c.files.disk
+      → Serves reads leaves s b disks kept → IsPlaced s j c → home (length s.channels) id ≡ j → StaysOnDisk reads leaves c d
       → ((part : List Record) → channel_step (place_with c part) (core_of reads c) s.hand (Unpin id) ≡ Some (core_of reads d, h1)) → IsSteady (with_channel s j d h1)
       → HoldsNoLonger reads leaves s b disks kept (id ∷ []) (with_channel s j d h1)
   held_no_longer law s b disks kept j c d id h1 serves at is_home left unpins steady =

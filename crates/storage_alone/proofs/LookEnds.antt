@@ -28,6 +28,7 @@ use Rattle.recovery.specs.Alone.{AloneState, Serves}
 use Rattle.storage_alone.specs.Asks.{Answers, held_by}
 use Rattle.storage_alone.specs.Faults.{EndsSo, IsCalm, NoneFell, OnServed, SomeRose, fault_of}
 use Rattle.storage_alone.specs.Steady.{IsSteady, IsSteadyChannel}
+use Rattle.storage_alone.proofs.Frames.{StaysOnDisk}
 use Rattle.storage_alone.proofs.Looked.{kept_entity, pays_nothing, same_read, serves_read, stands_read, with_read}
 use Rattle.storage_alone.proofs.Steadily.{calm_still, none_fell, some_rose, steady_on}
 
@@ -52,6 +53,9 @@ module _ {D : Type 0} (tells : Bool) (reads : D → ℕ → List ℕ) (leaves : 
   core_read : (id : ℕ) (c d : ChannelState D) (out : List ℕ) (r : Result ℕ ChannelFault) → LooksUp id c d out r → IsTrue tells → core_of reads d ≡ core_of reads c
   core_read id c d out r up tell = ap (λ (x : ChannelState D). core_of reads x) up.rest
       ∙ ap (λ (f : ℕ → List ℕ). record (core_of reads c) { table = table_in f c.rows }) (up.disk tell).reads_same
+
+  stays_read : (id : ℕ) (c d : ChannelState D) (out : List ℕ) (r : Result ℕ ChannelFault) → LooksUp id c d out r → IsTrue tells → StaysOnDisk reads leaves c d
+  stays_read id c d out r up tell = record { left = (up.disk tell).leaves_same; opened = ap (λ (x : ChannelState D). x.opened_next_id) up.rest }
 
   -- what a look-up of the storage is to say
   pub record LooksRight (s t : AloneState D) (id : ℕ) (res : Result Reply StorageFault) : Type 0 where
@@ -124,7 +128,7 @@ module _ {D : Type 0} (tells : Bool) (reads : D → ℕ → List ℕ) (leaves : 
             → IfErr r (λ f. f ≡ NoMemory) → Answers reads leaves s b disks kept kept (asks.Look id) r t
         answered tell b disks kept serves is (Ok reply) finds e =
             let core = core_read id c d out (Ok k) up tell in
-            let left = (up.disk tell).leaves_same in
+            let left = stays_read id c d out (Ok k) up tell in
             let got = found_in (entity_of (core_of reads c).table id) (take k out) (up.entity tell) in record {
               disks = disks;
               serves = serves_read reads leaves s j c d there core left b disks kept serves then_steady;
@@ -137,7 +141,7 @@ module _ {D : Type 0} (tells : Bool) (reads : D → ℕ → List ℕ) (leaves : 
             }
         answered tell b disks kept serves is (Err NoMemory) finds e =
             let core = core_read id c d out (Ok k) up tell in
-            let left = (up.disk tell).leaves_same in record {
+            let left = stays_read id c d out (Ok k) up tell in record {
               serves = serves_read reads leaves s j c d there core left b disks kept serves then_steady;
               same = same_read reads leaves s j c d there core left b kept;
             }
@@ -148,7 +152,7 @@ module _ {D : Type 0} (tells : Bool) (reads : D → ℕ → List ℕ) (leaves : 
     pub look_err : (f : ChannelFault) → LooksUp id c d out (Err f) → LooksRight s t id (Err (fault_of f))
     look_err refused.Fault up = record {
       answers = λ tell b disks kept serves is. record {
-        stands = stands_read reads leaves s j c d there (core_read id c d out (Err refused.Fault) up tell) (up.disk tell).leaves_same b disks kept serves;
+        stands = stands_read reads leaves s j c d there (core_read id c d out (Err refused.Fault) up tell) (stays_read id c d out (Err refused.Fault) up tell) b disks kept serves;
         number = refl;
       };
       steady = tt;

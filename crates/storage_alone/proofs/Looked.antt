@@ -20,7 +20,7 @@ use Rattle.recovery.specs.Alone.{AloneState, Serves, Stands, core_with}
 use Rattle.recovery.specs.Disks.{StandFor}
 use Rattle.storage_alone.specs.Asks.{held_by, storage_of}
 use Rattle.storage_alone.specs.Steady.{IsSteady}
-use Rattle.storage_alone.proofs.Frames.{serves_on, stands_on}
+use Rattle.storage_alone.proofs.Frames.{StaysOnDisk, serves_on, stands_on}
 use Rattle.storage_alone.proofs.Held.{goes_on, got_core, many_cores}
 use Rattle.storage_alone.proofs.Pinned.{PaysOnly}
 
@@ -42,7 +42,7 @@ module _ {D : Type 0} (reads : D → ℕ → List ℕ) (leaves : D → ℕ → L
       (slice_get-map (λ (x : ChannelState D). core_of reads x) s.channels j
       ∙ ap (λ (o : Option (ChannelState D)). option_map (λ (x : ChannelState D). core_of reads x) o) there)
 
-  module _ (s : AloneState D) (j : ℕ) (c d : ChannelState D) (there : slice_get s.channels j ≡ Some c) (core : core_of reads d ≡ core_of reads c) (left : leaves d.files.disk ≡ leaves c.files.disk) where
+  module _ (s : AloneState D) (j : ℕ) (c d : ChannelState D) (there : slice_get s.channels j ≡ Some c) (core : core_of reads d ≡ core_of reads c) (left : StaysOnDisk reads leaves c d) where
     good_read : (b : Book) → IsGood (core_with reads leaves s b) → IsGood (core_with reads leaves (with_read s j d) b)
     good_read b good = subst (λ (cs : List CoreChannel). IsGood (record { channels = cs; monitor = s.monitor; hands = s.hand ∷ []; book = b })) (sym (cores_same s j c d there core)) good
 

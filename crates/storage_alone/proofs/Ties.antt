@@ -1,6 +1,6 @@
 -- From what a channel holds to its images, and back.
 use Rattle.std.proofs.Common.{◌≡◌, ℕ, ◌+◌, ◌≤◌, Bool, true, false, cond, List, length, Option, Some, None, IsSomeAnd, refl, sym, ap, subst, ◌∙◌, inl, inr}
-use Rattle.std.specs.Prelude.{unwrap_or, if◌then◌else◌, ◌==◌}
+use Rattle.std.specs.Prelude.{IfSome, unwrap_or, if◌then◌else◌, ◌==◌}
 use Rattle.std.proofs.lemmas.Bool.{eq-eqb}
 use Rattle.transactions_file.specs.Inventory.{State, start}
 use Rattle.graph_model.specs.Ids.{has}
@@ -9,7 +9,7 @@ use Rattle.graph_model.specs.declared.entity.StoreOp.{StoreOp}
 use Rattle.core_steps.specs.Core.{next_before, written_of}
 use Rattle.core_steps.specs.Told.{Tried, TriedPart, TriedType}
 use Rattle.core_steps.specs.declared.state.Book.{Book}
-use Rattle.channel.specs.Core.{last_part, log_next_id}
+use Rattle.channel.specs.Core.{ids_below, last_part, log_next_id}
 use Rattle.channel.specs.Holding.{AreAlike, holding}
 use Rattle.channel.specs.Images.{Image, next_at, state_of}
 use Rattle.channel.specs.Left.{EndsOrTried, HasTriedPart}
@@ -52,9 +52,9 @@ module _ {D : Type 0} (reads : D → ℕ → List ℕ) (leaves : D → ℕ → L
     tried_here None o is last alike right has = absurd has
     tried_here (Some (TriedPart number next_id)) None is last alike right has = absurd right
     tried_here (Some (TriedPart number next_id)) (Some op) is last alike right has =
-        let part_has : HasPart c.channels c.number (last_part c) (log_next_id c) part next_id (disk_held reads c) image =
-        subst (λ (p : Option (List Record)). IsSomeAnd p (λ q. HasPart c.channels c.number (last_part c) (log_next_id c) q next_id (disk_held reads c) image)) right.1 has in
-        let there = image_tried reads c d next_id (next_before b) part image alike (low alike) part_has in
+        let part_has : HasPart c.channels c.number (last_part c) (ids_below c) part next_id (disk_held reads c) image =
+        subst (λ (p : Option (List Record)). IsSomeAnd p (λ q. HasPart c.channels c.number (last_part c) (ids_below c) q next_id (disk_held reads c) image)) right.1 has in
+        let there = image_tried reads c d next_id (next_before b) part image alike tied.opened (low alike) part_has in
         inr (op, is, subst (λ (k : ℕ). HasPart n j m (next_before b) part k d image) right.0 (part_here (last_part c) next_id last there))
     tried_here (Some (TriedType text)) o is last alike right has = absurd has
 
@@ -63,12 +63,15 @@ module _ {D : Type 0} (reads : D → ℕ → List ℕ) (leaves : D → ℕ → L
     nothing_tried (Some (TriedPart number next_id)) o right has = right
     nothing_tried (Some (TriedType text)) o right has = has
 
+    rises_with : (op : StoreOp) → b.opened ≡ Some op → next_before b ≤ op.next_id
+    rises_with op is = subst (λ (o : Option StoreOp). IfSome o (λ op. next_before b ≤ op.next_id)) is tied.rises
+
     by : (w : Bool) (o : Option StoreOp) → has j (written_of s.hand.opened) ≡ w → b.opened ≡ o → IsHeldWith w part o d (holding reads c)
         → IsRightTry c.tried c.prepared w part o → last_part c ≡ cond w (m + 1) m → EndsOrTried reads c image → ImageWith n s.hand.opened m b j d image
-    by false o lacks is held right last (inl ends) = inl (lacks, ends_here last (image_ended reads c d (next_before b) image held (low held) ends))
+    by false o lacks is held right last (inl ends) = inl (lacks, ends_here last (image_ended reads c d (next_before b) image held tied.opened (low held) ends))
     by false o lacks is held right last (inr tried) = tried_here c.tried o is last held right tried
     by true None has_it is held right last ends = absurd held
-    by true (Some op) has_it is held right last (inl ends) = inr (op, is, part_here m op.next_id refl (image_opened reads c d m op.next_id (next_before b) part image last held high ends))
+    by true (Some op) has_it is held right last (inl ends) = inr (op, is, part_here m op.next_id refl (image_opened reads c d m op.next_id (next_before b) part image last held tied.opened high (rises_with op is) ends))
     by true (Some op) has_it is held right last (inr tried) = absurd (nothing_tried c.tried (Some op) right tried)
 
     pub tied_image : EndsOrTried reads c image → IsImageFor (core_with reads leaves s b) j d image

@@ -1,6 +1,6 @@
 -- A storage stands once its core does, its channels are tied to the disks, and channel 0 keeps the types.
-use Rattle.std.proofs.Common.{◌≡◌, ℕ, ◌+◌, ◌<◌, Bool, false, cond, IsTrue, List, length, Option, Some, None, sym, ap, subst, ◌∙◌, ⊎_elim}
-use Rattle.std.specs.Prelude.{slice_get}
+use Rattle.std.proofs.Common.{◌≡◌, ℕ, ◌+◌, ◌<◌, ◌≤◌, Bool, false, cond, IsTrue, List, length, Option, Some, None, sym, ap, subst, ◌∙◌, ⊎_elim}
+use Rattle.std.specs.Prelude.{IfSome, slice_get}
 use Rattle.std.proofs.lemmas.Option.{slice_get_within}
 use Rattle.graph_model.specs.Ids.{has}
 use Rattle.graph_model.specs.declared.entity.StoreOp.{StoreOp}
@@ -62,6 +62,8 @@ module _ {D : Type 0} (tells : Bool) (reads : D → ℕ → List ℕ) (leaves : 
         ((all j c there).sound.on_disk tell w.unfailed) w.last_is (ends_at j c there) in record {
           number = w.number;
           channels = w.channels;
+          opened = serves.opened j c there;
+          rises = subst (λ (o : Option StoreOp). IfSome o (λ op. next_before b ≤ op.next_id)) (sym serves.none_open) tt;
           last = w.last_is ∙ ap (λ (t : Bool). cond t (s.monitor.stores_ended + 1) s.monitor.stores_ended) (sym (none_written j));
           held = subst (λ (t : Bool). IsHeldWith t (part_in (length s.channels) b j) b.opened (disks j) (holding reads c)) (sym (none_written j)) alike;
           try_ = subst (λ (t : Option Tried). IsRightTry t c.prepared (has j (written_of s.hand.opened)) (part_in (length s.channels) b j) b.opened) (sym w.untried) tt;

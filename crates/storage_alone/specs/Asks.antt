@@ -16,7 +16,7 @@ use Rattle.core_steps.specs.Core.{graph, held, next_before}
 use Rattle.core_steps.specs.declared.state.Book.{Book}
 use Rattle.type_desc.specs.declared.desc.TypeDesc.{TypeDesc}
 use Rattle.type_dictionary.specs.Records.{GainsRecord, records_from}
-use Rattle.channel.specs.Core.{core_of, log_next_id}
+use Rattle.channel.specs.Core.{core_of, ids_below}
 use Rattle.channel.specs.Parts.{IsStorable}
 use Rattle.channel.specs.Shown.{DiskTable}
 use Rattle.channel.specs.State.{ChannelState}
@@ -28,7 +28,7 @@ use Rattle.channel.specs.Images.{Image}
 -- THE FORM OF AN ASK, over any disks
 
 -- a store that can be written: some records, by rising id, each with a spelling and an id that a store with this next id may list, of at most 16 MiB
--- together; and the next id of no channel's log is above the store's
+-- together; and no channel has ids above the store's next id
 pub record HasStoreForm {D : Type 0} (s : AloneState D) (op : StoreOp) : Type 0 where
   pub some : 0 < length op.records
   pub ordered : rises (ids op.records) ≡ true
@@ -36,7 +36,7 @@ pub record HasStoreForm {D : Type 0} (s : AloneState D) (op : StoreOp) : Type 0 
   pub good_ids : AllByRecursion (λ (r : Record). is_good_id op.next_id r.id ≡ true) op.records
   pub most : total_size op.records ≤ 16777216
   pub next_high : op.next_id ≤ 2 ^ 48
-  pub next_low : (j : ℕ) (c : ChannelState D) → slice_get s.channels j ≡ Some c → log_next_id c ≤ op.next_id
+  pub next_low : (j : ℕ) (c : ChannelState D) → slice_get s.channels j ≡ Some c → ids_below c ≤ op.next_id
 
 -- the text of a type record has 1 to 1,048,576 bytes
 pub record HasTypeForm (text : List ℕ) : Type 0 where

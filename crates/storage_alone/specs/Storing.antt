@@ -7,7 +7,7 @@ use Rattle.graph_model.specs.declared.entity.StoreOp.{StoreOp}
 use Rattle.core_steps.specs.Core.{is_home}
 use Rattle.core_steps.specs.Rows.{store_channels}
 use Rattle.core_steps.specs.declared.state.OpenStore.{OpenStore}
-use Rattle.channel.specs.Core.{log_next_id}
+use Rattle.channel.specs.Core.{ids_below}
 use Rattle.channel.specs.State.{ChannelState}
 use Rattle.recovery.specs.Alone.{AloneState}
 use Rattle.storage_alone.specs.Steady.{IsBetweenStores, IsChannelAt}
@@ -38,7 +38,7 @@ pub record IsStoring {D : Type 0} (op : StoreOp) (k : ℕ) (s : AloneState D) : 
       → IsChannelAt (length s.channels) j (s.monitor.stores_ended + 1) s.monitor.stores_ended None c
   pub due : (j : ℕ) (c : ChannelState D) → slice_get s.channels j ≡ Some c → k ≤ j
       → IsChannelAt (length s.channels) j s.monitor.stores_ended s.monitor.stores_ended (Some (part_for (length s.channels) op.records j)) c
-  pub low : (j : ℕ) (c : ChannelState D) → slice_get s.channels j ≡ Some c → log_next_id c ≤ op.next_id
+  pub low : (j : ℕ) (c : ChannelState D) → slice_get s.channels j ≡ Some c → ids_below c ≤ op.next_id
   pub flags : length s.monitor.begun ≡ length s.channels
   pub open_store : OpenStore
   pub opened : s.hand.opened ≡ Some open_store

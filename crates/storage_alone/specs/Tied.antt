@@ -1,10 +1,10 @@
 -- How what the channels' disks hold is tied to the stores: to what each disk held when the last store ended.
-use Rattle.std.specs.Prelude.{◌≡◌, ℕ, ◌+◌, ◌≤◌, Bool, true, false, cond, List, ◌∷◌, [], ◌++◌, length, slice_get, Option, Some, None, IsSomeAnd}
+use Rattle.std.specs.Prelude.{◌≡◌, ℕ, ◌+◌, ◌≤◌, Bool, true, false, cond, List, ◌∷◌, [], ◌++◌, length, slice_get, Option, Some, None, IfSome, IsSomeAnd}
 use Rattle.std.specs.List.{AllByRecursion}
 use Rattle.graph_model.specs.Ids.{has}
 use Rattle.graph_model.specs.declared.entity.Record.{Record}
 use Rattle.graph_model.specs.declared.entity.StoreOp.{StoreOp}
-use Rattle.core_steps.specs.Core.{written_of}
+use Rattle.core_steps.specs.Core.{next_before, written_of}
 use Rattle.core_steps.specs.Told.{Tried, TriedPart, TriedType}
 use Rattle.core_steps.specs.declared.state.Book.{Book}
 use Rattle.type_desc.specs.declared.desc.TypeDesc.{TypeDesc}
@@ -36,6 +36,9 @@ IsRightTry (Some (TriedType text)) ready has_part part opened = Unit {0}
 pub record IsTied {D : Type 0} (reads : D → ℕ → List ℕ) (s : AloneState D) (b : Book) (d : DiskTable) (j : ℕ) (c : ChannelState D) : Type 0 where
   pub number : c.number ≡ j
   pub channels : c.channels ≡ length s.channels
+  -- the channel was opened with a next id that is not above the stores'
+  pub opened : c.opened_next_id ≤ next_before b
+  pub rises : IfSome b.opened (λ op. next_before b ≤ op.next_id)
   pub last : last_part c ≡ cond (has j (written_of s.hand.opened)) (s.monitor.stores_ended + 1) s.monitor.stores_ended
   pub held : IsHeldWith (has j (written_of s.hand.opened)) (part_in (length s.channels) b j) b.opened d (holding reads c)
   pub try_ : IsRightTry c.tried c.prepared (has j (written_of s.hand.opened)) (part_in (length s.channels) b j) b.opened

@@ -103,6 +103,13 @@ impl Inventory {
         self.next_id
     }
 
+    /// The next id in front of the last entry.
+    pub fn next_id_before(&self) -> u64
+        ensures { result ≡ self.now.state.next_id_before }
+    {
+        self.next_id_before
+    }
+
     pub fn last_entry(&self) -> Option<Entry>
         ensures { result ≡ self.now.state.entry }
     {
