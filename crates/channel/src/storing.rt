@@ -94,7 +94,8 @@ impl<D: Disk> Channel<D> {
         // A channel that marks or sweeps gets its part by what a later stage adds.
         requires idle { is_idle (core_of D.reads self.old).phase ≡ true }
         requires credit { IfSome self.old.prepared (λ part. length part ≤ hand.old.credit) }
-        requires next_id { ids_below self.old ≤ next_id }
+        requires next_id { log_next_id self.old ≤ next_id }
+        requires opened { self.old.opened_next_id ≤ next_id }
         // The records are this channel's.
         requires own { IfSome self.old.prepared (AllByRecursion (IsOwn self.old.channels self.old.number next_id)) }
         requires next_id_limit { next_id ≤ 2 ^ 48 }

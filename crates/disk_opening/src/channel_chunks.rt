@@ -1,6 +1,6 @@
 //! All chunks of a channel up to a store are taken into one index.
 
-ghost use Rattle.std.specs.Prelude.{◌≡◌, ◌≤◌, ◌++◌, ℕ, List, IsTrue, IfOk, OnOk, IsErrOf};
+ghost use Rattle.std.specs.Prelude.{◌≡◌, ◌≢◌, ◌≤◌, ◌++◌, ℕ, List, IsTrue, IfOk, OnOk, IsErrOf, IfErr};
 ghost use Rattle.call_counts.specs.Counts.{Rose};
 ghost use Rattle.gated_log.specs.Log.{payloads_of};
 ghost use Rattle.channel_files.specs.Chunks.{chunk_at, ranges_of};
@@ -49,6 +49,7 @@ fn take_range<D: Disk>(
     ensures faults { D.faults disk.old ≤ D.faults disk.new }
     ensures cause { IsErrOf result ChunkFault.Fault → Rose (D.faults disk.old) (D.faults disk.new) }
     ensures calm { OnOk result (D.faults disk.new ≡ D.faults disk.old) }
+    ensures calm_fault { IfErr result (λ e. e ≢ ChunkFault.Fault → D.faults disk.new ≡ D.faults disk.old) }
 {
     let file_length = disk.len(range.file)?;
     let Some(end) = range.at.checked_add(range.length) else {
@@ -93,6 +94,7 @@ pub fn read_chunks<D: Disk>(
     ensures faults { D.faults disk.old ≤ D.faults disk.new }
     ensures cause { IsErrOf result ChunkFault.Fault → Rose (D.faults disk.old) (D.faults disk.new) }
     ensures calm { OnOk result (D.faults disk.new ≡ D.faults disk.old) }
+    ensures calm_fault { IfErr result (λ e. e ≢ ChunkFault.Fault → D.faults disk.new ≡ D.faults disk.old) }
 {
     let mut index = EntityIndex::new(alloc);
     'chunks: for range in log.ranges.as_slice() {

@@ -1,5 +1,5 @@
 //! The chunks of a channel's data files are taken into an index.
-ghost use Rattle.std.specs.Prelude.{◌≡◌, ◌≤◌, ◌+◌, ◌<◌, ◌++◌, ◌^◌, ℕ, List, IsTrue, length, OnOk, IsErrOf};
+ghost use Rattle.std.specs.Prelude.{◌≡◌, ◌≢◌, ◌≤◌, ◌+◌, ◌<◌, ◌++◌, ◌^◌, ℕ, List, IsTrue, length, OnOk, IsErrOf, IfErr};
 ghost use Rattle.std.specs.FinMap as finite;
 ghost use Rattle.call_counts.specs.Counts.{Rose};
 ghost use Rattle.channel_files.specs.Chunks.{chunk_at};
@@ -95,6 +95,7 @@ pub fn take_in<D: Disk>(
     ensures faults { D.faults disk.old ≤ D.faults disk.new }
     ensures cause { IsErrOf result ChunkFault.Fault → Rose (D.faults disk.old) (D.faults disk.new) }
     ensures calm { OnOk result (D.faults disk.new ≡ D.faults disk.old) }
+    ensures calm_fault { IfErr result (λ e. e ≢ ChunkFault.Fault → D.faults disk.new ≡ D.faults disk.old) }
 {
     if walk.file_length < walk.at {
         return Err(ChunkFault::BadChunk {

@@ -1,6 +1,6 @@
 //! An entity is read where its row says, and its form is looked at.
 
-ghost use Rattle.std.specs.Prelude.{◌≡◌, ◌≤◌, ℕ, take, List, IsTrue, IsFalse, length, IfErr, IfOk, OnOk, IsErrOf};
+ghost use Rattle.std.specs.Prelude.{◌≡◌, ◌≢◌, ◌≤◌, ℕ, take, List, IsTrue, IsFalse, length, IfErr, IfOk, OnOk, IsErrOf};
 ghost use Rattle.call_counts.specs.Counts.{Rose};
 ghost use Rattle.graph_model.specs.Graph.{entity_size};
 ghost use Rattle.entity_form.specs.Form.{Holds};
@@ -65,6 +65,7 @@ fn read_row<D: Disk>(disk: &mut D, id: u64, row: Row, window: &mut [u8]) -> Resu
     ensures faults { D.faults disk.old ≤ D.faults disk.new }
     ensures cause { IsErrOf result SearchFault.Fault → Rose (D.faults disk.old) (D.faults disk.new) }
     ensures calm { OnOk result (D.faults disk.new ≡ D.faults disk.old) }
+    ensures calm_fault { IfErr result (λ e. e ≢ SearchFault.Fault → D.faults disk.new ≡ D.faults disk.old) }
 {
     match read_entity(disk, row.file as u32, row.at, row.header, window) {
         Ok(()) => Ok(()),
@@ -105,6 +106,7 @@ pub(crate) fn entity_of_row<D: Disk>(
     ensures faults { D.faults disk.old ≤ D.faults disk.new }
     ensures cause { IsErrOf result SearchFault.Fault → Rose (D.faults disk.old) (D.faults disk.new) }
     ensures calm { OnOk result (D.faults disk.new ≡ D.faults disk.old) }
+    ensures calm_fault { IfErr result (λ e. e ≢ SearchFault.Fault → D.faults disk.new ≡ D.faults disk.old) }
 {
     read_row(disk, id, row, window)?;
     let entity = spelled_entity(alloc, &window[..row.header.length as usize])?;

@@ -1,6 +1,6 @@
 //! The transactions log of a channel is read.
 
-ghost use Rattle.std.specs.Prelude.{◌≡◌, ◌≢◌, ◌≤◌, ◌<◌, ◌⊎◌, ◌↔◌, ℕ, take, List, IsTrue, false, length, IfOk, OnOk, IsErr, IsErrOf, Err, Ok, Some};
+ghost use Rattle.std.specs.Prelude.{◌≡◌, ◌≢◌, ◌≤◌, ◌<◌, ◌⊎◌, ◌↔◌, ℕ, take, List, IsTrue, false, length, IfOk, OnOk, IsErr, IsErrOf, Err, Ok, Some, IfErr};
 ghost use Rattle.call_counts.specs.Counts.{Rose};
 ghost use Rattle.gated_log.specs.Log.{payloads_of};
 ghost use Rattle.gated_log.specs.Reading.{IsReading, rest_of};
@@ -130,6 +130,7 @@ fn read_entries<D: Disk>(
     ensures faults { D.faults disk.old ≤ D.faults disk.new }
     ensures cause { IsErrOf result ChannelLogFault.Fault → Rose (D.faults disk.old) (D.faults disk.new) }
     ensures calm { OnOk result (D.faults disk.new ≡ D.faults disk.old) }
+    ensures calm_fault { IfErr result (λ e. e ≢ ChannelLogFault.Fault → D.faults disk.new ≡ D.faults disk.old) }
 {
     let mut inventory = Inventory::new(alloc);
     let mut ranges = Ranges::new(alloc);
@@ -182,6 +183,7 @@ pub fn read_log<D: Disk>(
     ensures faults { D.faults disk.old ≤ D.faults disk.new }
     ensures cause { IsErrOf result ChannelLogFault.Fault → Rose (D.faults disk.old) (D.faults disk.new) }
     ensures calm { OnOk result (D.faults disk.new ≡ D.faults disk.old) }
+    ensures calm_fault { IfErr result (λ e. e ≢ ChannelLogFault.Fault → D.faults disk.new ≡ D.faults disk.old) }
 {
     let mut opening = begin(disk, LOG_FILE, header_of(channel, channels))?;
     let (inventory, ranges) = read_entries(alloc, &mut opening, disk, window)?;

@@ -1,6 +1,6 @@
 //! What the root reaches is searched in the tables of all channels.
 
-ghost use Rattle.std.specs.Prelude.{◌≡◌, ◌≤◌, ◌<◌, ◌^◌, ◌∷◌, [], ℕ, true, false, is_some, List, Some, IsTrue, IsFalse, length, map, option_map, IfErr, IfOk, IfSome, OnOk, IsErrOf};
+ghost use Rattle.std.specs.Prelude.{◌≡◌, ◌≢◌, ◌≤◌, ◌<◌, ◌^◌, ◌∷◌, [], ℕ, true, false, is_some, List, Some, IsTrue, IsFalse, length, map, option_map, IfErr, IfOk, IfSome, OnOk, IsErrOf};
 ghost use Rattle.graph_model.specs.Graph.{entity_size};
 ghost use Rattle.graph_model.specs.Ids.{has, insert};
 ghost use Rattle.core_steps.specs.Core.{home};
@@ -44,6 +44,7 @@ fn read_at<D: Disk>(
     ensures faults { NoneFell (map D.faults disks.old) (map D.faults disks.new) }
     ensures cause { IsErrOf result SearchFault.Fault → OneRose (map D.faults disks.old) (map D.faults disks.new) }
     ensures calm { OnOk result (map D.faults disks.new ≡ map D.faults disks.old) }
+    ensures calm_fault { IfErr result (λ e. e ≢ SearchFault.Fault → map D.faults disks.new ≡ map D.faults disks.old) }
 {
     entity_of_row(alloc, &mut disks[home], id, row, window)
 }
@@ -84,6 +85,7 @@ fn read_home<D: Disk>(
     ensures faults { NoneFell (map D.faults disks.old) (map D.faults disks.new) }
     ensures cause { IsErrOf result SearchFault.Fault → OneRose (map D.faults disks.old) (map D.faults disks.new) }
     ensures calm { OnOk result (map D.faults disks.new ≡ map D.faults disks.old) }
+    ensures calm_fault { IfErr result (λ e. e ≢ SearchFault.Fault → map D.faults disks.new ≡ map D.faults disks.old) }
 {
     let Some((home, row)) = row_of(indexes, id) else {
         return Err(SearchFault::Missing { id });
@@ -142,6 +144,7 @@ pub fn search<D: Disk>(
     ensures faults { NoneFell (map D.faults disks.old) (map D.faults disks.new) }
     ensures cause { IsErrOf result SearchFault.Fault → OneRose (map D.faults disks.old) (map D.faults disks.new) }
     ensures calm { OnOk result (map D.faults disks.new ≡ map D.faults disks.old) }
+    ensures calm_fault { IfErr result (λ e. e ≢ SearchFault.Fault → map D.faults disks.new ≡ map D.faults disks.old) }
 {
     searches_find_the_graph();
     let mut looked = BTreeSet::new(alloc);

@@ -1,6 +1,6 @@
 //! The dictionary log is read, which stands on the disk of channel 0.
 
-ghost use Rattle.std.specs.Prelude.{◌≡◌, ◌≢◌, ◌≤◌, ◌<◌, ◌⊎◌, ℕ, take, List, IsTrue, length, IfOk, OnOk, IsErrOf};
+ghost use Rattle.std.specs.Prelude.{◌≡◌, ◌≢◌, ◌≤◌, ◌<◌, ◌⊎◌, ℕ, take, List, IsTrue, length, IfOk, OnOk, IsErrOf, IfErr};
 ghost use Rattle.call_counts.specs.Counts.{Rose};
 ghost use Rattle.gated_log.specs.Log.{payloads_of};
 ghost use Rattle.gated_log.specs.Reading.{IsReading, rest_of};
@@ -87,6 +87,7 @@ fn read_types<D: Disk>(
     ensures faults { D.faults disk.old ≤ D.faults disk.new }
     ensures cause { IsErrOf result DictionaryFault.Fault → Rose (D.faults disk.old) (D.faults disk.new) }
     ensures calm { OnOk result (D.faults disk.new ≡ D.faults disk.old) }
+    ensures calm_fault { IfErr result (λ e. e ≢ DictionaryFault.Fault → D.faults disk.new ≡ D.faults disk.old) }
 {
     let mut dictionary = Dictionary::new(alloc);
     'types: while let Some(n) = opening.next(disk, window)? {
@@ -131,6 +132,7 @@ pub fn read_dictionary<D: Disk>(
     ensures faults { D.faults disk.old ≤ D.faults disk.new }
     ensures cause { IsErrOf result DictionaryFault.Fault → Rose (D.faults disk.old) (D.faults disk.new) }
     ensures calm { OnOk result (D.faults disk.new ≡ D.faults disk.old) }
+    ensures calm_fault { IfErr result (λ e. e ≢ DictionaryFault.Fault → D.faults disk.new ≡ D.faults disk.old) }
 {
     let mut opening = begin(disk, TYPES_FILE, types_header_of(channels))?;
     let dictionary = read_types(alloc, &mut opening, disk, window)?;

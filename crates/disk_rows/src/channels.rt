@@ -84,8 +84,10 @@ fn channel(
 ) -> Result<Channel<SilentDisk>, Fail>
     requires window { 1048576 ≤ length window.old }
     requires header { transactions.log.header ≡ log_header 2 0 }
+    requires low { transactions.inventory.state.next_id ≤ 1024 }
     ensures number { IfOk result (λ c. c.number ≡ 0) }
     ensures channels { IfOk result (λ c. c.channels ≡ 2) }
+    ensures opened { IfOk result (λ c. c.opened_next_id ≡ 1024) }
     ensures rows { IfOk result (λ c. c.rows ≡ finite.empty) }
     ensures state { IfOk result (λ c. c.files.transactions.inventory.state ≡ transactions.inventory.state) }
     ensures confirmed { IfOk result (λ c. c.files.confirmed ≡ transactions.inventory.state.last) }
@@ -99,7 +101,7 @@ fn channel(
         maximum: 1 << 20,
         use_rate: 500,
     };
-    match Channel::new(alloc, disk, transactions, Some(types), 0, 2, sizes) {
+    match Channel::new(alloc, disk, transactions, Some(types), 0, 2, 1024, sizes) {
         Ok(channel) => Ok(channel),
         Err(_) => Err(Fail::new("out of memory")),
     }
@@ -111,6 +113,7 @@ fn open(alloc: Global, mut disk: SilentDisk, window: &mut [u8]) -> Result<Channe
     ensures number { IfOk result (λ c. c.number ≡ 0) }
     ensures rows { IfOk result (λ c. c.rows ≡ finite.empty) }
     ensures channels { IfOk result (λ c. c.channels ≡ 2) }
+    ensures opened { IfOk result (λ c. c.opened_next_id ≡ 1024) }
     ensures state { IfOk result (λ c. c.files.transactions.inventory.state ≡ start) }
     ensures confirmed { IfOk result (λ c. c.files.confirmed ≡ 0) }
     ensures phase { IfOk result (λ c. c.phase ≡ Stage.Idle 0) }
@@ -155,6 +158,7 @@ fn one_record(alloc: Global) -> Result<Records, NoMemory>
 fn store_one(alloc: Global, channel: &mut Channel<SilentDisk>, hand: &mut Hand) -> Result<(), Fail>
     requires number { channel.old.number ≡ 0 }
     requires channels { channel.old.channels ≡ 2 }
+    requires opened { channel.old.opened_next_id ≡ 1024 }
     requires phase { channel.old.phase ≡ Stage.Idle 0 }
     requires untried { channel.old.tried ≡ None }
     requires state { channel.old.files.transactions.inventory.state ≡ start }

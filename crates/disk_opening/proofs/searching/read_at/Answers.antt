@@ -1,7 +1,8 @@
 -- One of the disks is read.
-use Rattle.std.proofs.Common.{ℕ, [], subst}
-use Rattle.std.proofs.lemmas.Result.{on_ok_weaker}
+use Rattle.std.proofs.Common.{◌≡◌, ◌≢◌, ℕ, [], get_or, subst}
+use Rattle.std.proofs.lemmas.Result.{IfErr-weaker, on_ok_weaker}
 use Rattle.channel.specs.Images.{Image}
+use Rattle.disk_opening.specs.declared.entities.SearchFault.TheVariants.{Fault}
 use Rattle.disk_opening.specs.RowTables.{IsRowThere}
 use Rattle.disk_opening.proofs.DiskLists.{all_told, one_higher, one_rose, told_at}
 use Rattle.disk_opening.proofs.searching.read_at.Goals as goal
@@ -24,3 +25,7 @@ returns-clause-cause g c is = one_rose g.D.Disk.faults c.args.disks.now c.args.h
 
 pub returns-clause-calm : goal.returns-clause-calm
 returns-clause-calm g c = on_ok_weaker c.entity_of_row.result (λ calm. all_told g.D.Disk.faults c.args.disks.now c.args.home c.index-disks-home.result c.entity_of_row.new.disk calm) c.entity_of_row.ensures.calm
+
+pub returns-clause-calm_fault : goal.returns-clause-calm_fault
+returns-clause-calm_fault g c = IfErr-weaker c.entity_of_row.result (λ e. e ≢ Fault → g.D.Disk.faults c.entity_of_row.new.disk ≡ g.D.Disk.faults (get_or c.args.disks.now c.args.home c.index-disks-home.result)) _
+    (λ e calm other. all_told g.D.Disk.faults c.args.disks.now c.args.home c.index-disks-home.result c.entity_of_row.new.disk (calm other)) c.entity_of_row.ensures.calm_fault

@@ -1,4 +1,5 @@
 -- The part is stored, or refused with all of it ready.
+use Rattle.std.proofs.Math.Nat.{max-le}
 use Rattle.std.proofs.Common.{◌≡◌, ◌≤◌, ◌<◌, ◌+◌, ◌^◌, ℕ, true, false, List, length, Option, Some, Ok, Err, IfSome, refl, sym, ap, subst, ◌∙◌, rules}
 use Rattle.std.proofs.lemmas.Bool.{false≢true}
 use Rattle.graph_model.specs.declared.entity.Record.{Record}
@@ -54,7 +55,7 @@ invariant_of-self-in-Ok g c =
     let idle = subst (λ (s : ChannelState g.row.D.Denot). is_idle (phase_in s.phase s.rows) ≡ true) (sym c.self.view_is) c.requires.idle in
     let is : c.self.inside.prepared ≡ Some rs = search rules in
     let next = subst (λ (s : ChannelState g.row.D.Denot). c.args.number ≡ last_part s + 1) (sym c.self.view_is) c.requires.number in
-    let le = subst (λ (s : ChannelState g.row.D.Denot). ids_below s ≤ c.args.next_id) (sym c.self.view_is) c.requires.next_id in
+    let le = subst (λ (s : ChannelState g.row.D.Denot). ids_below s ≤ c.args.next_id) (sym c.self.view_is) (max-le c.requires.opened c.requires.next_id) in
     let owned = subst (λ (s : ChannelState g.row.D.Denot). IfSome s.prepared (AllByRecursion (IsOwn s.channels s.number c.args.next_id))) (sym c.self.view_is) c.requires.own in
     let own = subst (λ (o : Option (List Record)). IfSome o (AllByRecursion (IsOwn c.self.inside.count c.self.inside.number c.args.next_id))) is owned in
     let place_live = λ (some : 0 < length (chunk_for rs)). c.in-Ok.ensures.place_live (subst (λ (b : List ℕ). 0 < length b) (sym bytes) some) in (
@@ -119,7 +120,7 @@ invariant_of-self-in-Err-Fault g c =
     let fails = λ (e : new.failed ≡ false). false≢true (sym e ∙ c.note-in-Err-Fault.ensures.failed) in
     let is : c.self.inside.prepared ≡ Some rs = search rules in
     let next = subst (λ (s : ChannelState g.row.D.Denot). c.args.number ≡ last_part s + 1) (sym c.self.view_is) c.requires.number in
-    let le = subst (λ (s : ChannelState g.row.D.Denot). ids_below s ≤ c.args.next_id) (sym c.self.view_is) c.requires.next_id in
+    let le = subst (λ (s : ChannelState g.row.D.Denot). ids_below s ≤ c.args.next_id) (sym c.self.view_is) (max-le c.requires.opened c.requires.next_id) in
     let owned = subst (λ (s : ChannelState g.row.D.Denot). IfSome s.prepared (AllByRecursion (IsOwn s.channels s.number c.args.next_id))) (sym c.self.view_is) c.requires.own in
     let own = subst (λ (o : Option (List Record)). IfSome o (AllByRecursion (IsOwn c.self.inside.count c.self.inside.number c.args.next_id))) is owned in
     let confirmed = subst (λ (s : ChannelState g.row.D.Denot). s.files.confirmed ≡ last_part s) (sym c.self.view_is) c.requires.confirmed in
@@ -166,7 +167,7 @@ returns-in-Some-take-clause-event g c =
     (Ok c.in-Ok.place)) bytes c.in-Ok.ensures.stored in
     let idle = subst (λ (s : ChannelState g.row.D.Denot). is_idle (phase_in s.phase s.rows) ≡ true) (sym c.self.view_is) c.requires.idle in
     let next = subst (λ (s : ChannelState g.row.D.Denot). c.args.number ≡ last_part s + 1) (sym c.self.view_is) c.requires.number in
-    let le = subst (λ (s : ChannelState g.row.D.Denot). ids_below s ≤ c.args.next_id) (sym c.self.view_is) c.requires.next_id in
+    let le = subst (λ (s : ChannelState g.row.D.Denot). ids_below s ≤ c.args.next_id) (sym c.self.view_is) (max-le c.requires.opened c.requires.next_id) in
     let owned = subst (λ (s : ChannelState g.row.D.Denot). IfSome s.prepared (AllByRecursion (IsOwn s.channels s.number c.args.next_id))) (sym c.self.view_is) c.requires.own in
     let own = subst (λ (o : Option (List Record)). IfSome o (AllByRecursion (IsOwn c.self.inside.count c.self.inside.number c.args.next_id))) is owned in
     let place_live = λ (some : 0 < length (chunk_for rs)). c.in-Ok.ensures.place_live (subst (λ (b : List ℕ). 0 < length b) (sym bytes) some) in
@@ -261,7 +262,7 @@ returns-in-Some-take-clause-parts g c =
     let rs = c.in-Some.part in
     let is : c.self.inside.prepared ≡ Some rs = search rules in
     let next = subst (λ (s : ChannelState g.row.D.Denot). c.args.number ≡ last_part s + 1) (sym c.self.view_is) c.requires.number in
-    let le = subst (λ (s : ChannelState g.row.D.Denot). ids_below s ≤ c.args.next_id) (sym c.self.view_is) c.requires.next_id in
+    let le = subst (λ (s : ChannelState g.row.D.Denot). ids_below s ≤ c.args.next_id) (sym c.self.view_is) (max-le c.requires.opened c.requires.next_id) in
     let owned = subst (λ (s : ChannelState g.row.D.Denot). IfSome s.prepared (AllByRecursion (IsOwn s.channels s.number c.args.next_id))) (sym c.self.view_is) c.requires.own in
     let stored = subst (λ (b : List ℕ). IsStored g.D.Disk.tells g.D.Disk.reads g.D.Disk.leaves c.self.inside.files c.store_chunk.new.self c.args.number b c.args.next_id
     c.store_chunk.result) c.chunk.ensures.bytes c.store_chunk.ensures.stored in
@@ -274,7 +275,7 @@ returns-in-Err-Full-clause-parts g c =
     let rs = c.in-Some.part in
     let is : c.self.inside.prepared ≡ Some rs = search rules in
     let next = subst (λ (s : ChannelState g.row.D.Denot). c.args.number ≡ last_part s + 1) (sym c.self.view_is) c.requires.number in
-    let le = subst (λ (s : ChannelState g.row.D.Denot). ids_below s ≤ c.args.next_id) (sym c.self.view_is) c.requires.next_id in
+    let le = subst (λ (s : ChannelState g.row.D.Denot). ids_below s ≤ c.args.next_id) (sym c.self.view_is) (max-le c.requires.opened c.requires.next_id) in
     let owned = subst (λ (s : ChannelState g.row.D.Denot). IfSome s.prepared (AllByRecursion (IsOwn s.channels s.number c.args.next_id))) (sym c.self.view_is) c.requires.own in
     let stored = subst (λ (b : List ℕ). IsStored g.D.Disk.tells g.D.Disk.reads g.D.Disk.leaves c.self.inside.files c.store_chunk.new.self c.args.number b c.args.next_id
     c.store_chunk.result) c.chunk.ensures.bytes c.store_chunk.ensures.stored in
@@ -287,7 +288,7 @@ returns-in-Err-Fault-clause-parts g c =
     let rs = c.in-Some.part in
     let is : c.self.inside.prepared ≡ Some rs = search rules in
     let next = subst (λ (s : ChannelState g.row.D.Denot). c.args.number ≡ last_part s + 1) (sym c.self.view_is) c.requires.number in
-    let le = subst (λ (s : ChannelState g.row.D.Denot). ids_below s ≤ c.args.next_id) (sym c.self.view_is) c.requires.next_id in
+    let le = subst (λ (s : ChannelState g.row.D.Denot). ids_below s ≤ c.args.next_id) (sym c.self.view_is) (max-le c.requires.opened c.requires.next_id) in
     let owned = subst (λ (s : ChannelState g.row.D.Denot). IfSome s.prepared (AllByRecursion (IsOwn s.channels s.number c.args.next_id))) (sym c.self.view_is) c.requires.own in
     let stored = subst (λ (b : List ℕ). IsStored g.D.Disk.tells g.D.Disk.reads g.D.Disk.leaves c.self.inside.files c.store_chunk.new.self c.args.number b c.args.next_id
     c.store_chunk.result) c.chunk.ensures.bytes c.store_chunk.ensures.stored in
@@ -358,7 +359,7 @@ returns-in-Err-Fault-clause-holding_stays g c =
     let ensures = c.in-Err-Fault.ensures in
     let is : c.self.inside.prepared ≡ Some rs = search rules in
     let next = subst (λ (s : ChannelState g.row.D.Denot). c.args.number ≡ last_part s + 1) (sym c.self.view_is) c.requires.number in
-    let le = subst (λ (s : ChannelState g.row.D.Denot). ids_below s ≤ c.args.next_id) (sym c.self.view_is) c.requires.next_id in
+    let le = subst (λ (s : ChannelState g.row.D.Denot). ids_below s ≤ c.args.next_id) (sym c.self.view_is) (max-le c.requires.opened c.requires.next_id) in
     let owned = subst (λ (s : ChannelState g.row.D.Denot). IfSome s.prepared (AllByRecursion (IsOwn s.channels s.number c.args.next_id))) (sym c.self.view_is) c.requires.own in
     let own = subst (λ (o : Option (List Record)). IfSome o (AllByRecursion (IsOwn c.self.inside.count c.self.inside.number c.args.next_id))) is owned in
     let confirmed = subst (λ (s : ChannelState g.row.D.Denot). s.files.confirmed ≡ last_part s) (sym c.self.view_is) c.requires.confirmed in
