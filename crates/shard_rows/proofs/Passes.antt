@@ -61,3 +61,14 @@ pub all_joined : (s s' w r : View) → IsSession 3 s → IsAlike s s' → actors
 all_joined s s' w r session f are is = has_two r.joined r refl
     (ap (λ (z : View). actors_of z.joined) is ∙ (λ i. actors_of ((f.1 ∙ session.1) i ++ w.own ∷ w.joined)) ∙ are)
     (ap (λ (z : View). z.desk.made) is ∙ (f.2 ∙ session.2))
+
+-- the one worker's pass joined the session's
+pub one_joined : (s w r : View) → s.joined ≡ [] → s.desk.made ≡ 2 → w.own.actor ≡ 1 → r ≡ joined_with s w → HasAll r
+one_joined s w r none made one is = λ a positive below.
+    let many : r.desk.made ≡ 2 = ap (λ (z : View). z.desk.made) is ∙ made in
+    let first : a ≡ 1 = omega (arith, many) in (
+      0,
+      w.own,
+      ap (λ (z : View). lib.ListN.get_elem? z.joined 0) is ∙ (λ i. lib.ListN.get_elem? (none i ++ w.own ∷ w.joined) 0),
+      one ∙ sym first,
+    )

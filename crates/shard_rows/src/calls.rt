@@ -6,7 +6,7 @@ ghost use Rattle.shard_rows.specs.Units.{IsAlike, IsSession};
 use crate::history::{Order, check_history};
 use crate::leaving::rest;
 use crate::session::serve_once;
-use crate::threads::run_and_close;
+use crate::threads::{join_and_close, run_and_close};
 use crate::units::{MemoryUnit, memory_shards};
 use crate::working::act;
 use core_hands::Hand;
@@ -136,8 +136,7 @@ fn each_call_answers_as_it_must(rt: HostRuntime) {
     assert!(rt; is_stopped);
     let held = shards.enter(&rt, session, 2);
     let session = serve_once(&shards, &order, held);
-    let session = shards.join(session, worker);
-    let (units, hand) = shards.close(session);
+    let (units, hand) = join_and_close(shards, session, worker);
     assert_eq!(rt; (units.len(), hand.open_number()), (3, Some(1)));
     let (core, steps) = check_history(alloc, units, 2).expect(&rt, "a run");
     assert_eq!(rt;

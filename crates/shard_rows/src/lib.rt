@@ -14,6 +14,6 @@ mod working;
 
 pub use history::{Entry, Log, Order, check_history};
 pub use session::{serve, serve_once};
-pub use threads::{run_all, run_and_close};
+pub use threads::{join_and_close, run_all, run_and_close};
 pub use units::{EmptyChannel, MemoryUnit, Stage, first_units, memory_shards};
 pub use working::{act, work};

@@ -95,3 +95,17 @@ pub fn run_and_close<R: Wait + Threads + Sync>(
     let session = run_all(rt, &shards, order, session, first, second, turns);
     shards.close(session)
 }
+
+/// The one worker's pass joins the session's, and the shards are closed.
+pub fn join_and_close(
+    shards: Shards<MemoryUnit>,
+    session: Pass<MemoryUnit>,
+    worker: Pass<MemoryUnit>,
+) -> (Vec<MemoryUnit>, Hand)
+    requires table { (session.table ≡ shards.table) × (worker.table ≡ shards.table) }
+    requires session { (session.known.own.actor ≡ 0) × (session.known.joined ≡ []) × (session.known.desk.made ≡ 2) }
+    requires worker { (worker.known.own.actor ≡ 1) × (worker.known.joined ≡ []) }
+{
+    let session = shards.join(session, worker);
+    shards.close(session)
+}
