@@ -1,10 +1,9 @@
 -- The store that all logs have in common is that of what the disks hold; and the logs one by one.
-use Rattle.std.proofs.Common.{◌≡◌, ℕ, zero, suc, ◌+◌, ◌≤◌, ◌<◌, Bool, IsTrue, List, [], ◌∷◌, drop, length, get_or, map, Result, Ok, Err, Some, refl, sym, ap, ◌∙◌, subst, arith, inl, inr}
+use Rattle.std.proofs.Common.{◌≡◌, ℕ, zero, suc, ◌+◌, ◌≤◌, ◌<◌, IsTrue, List, [], ◌∷◌, drop, length, map, Result, Ok, Err, Some, refl, sym, ap, ◌∙◌, subst, arith, inl, inr}
 use Rattle.std.specs.Prelude.{All, IfErr, slice_get}
 use Rattle.std.proofs.lemmas.List.{length-map}
 use Rattle.std.proofs.lemmas.List.Elements.{All-contains}
 use Rattle.std.proofs.lemmas.Option.{get_or_from_slice_get, slice_get_cases, slice_get_within}
-use Rattle.store_io.specs.Disk.{Only}
 use Rattle.store_io.specs.Whole.{IsImage}
 use Rattle.gated_log.specs.Log.{payloads_of}
 use Rattle.store_opening.specs.TakenBack.{IsTakenBack}
@@ -13,7 +12,7 @@ use Rattle.store_agreement.specs.Agreement.{Agrees, AllAgree, IsLeast, numbers_o
 use Rattle.store_agreement.specs.declared.agreement.Last.{Last}
 use Rattle.channel.specs.Images.{Image, log_header, state_of}
 use Rattle.recovery.specs.Images.{image_at, last_of, lasts_of}
-use Rattle.recovery.specs.Stored.{IsStored, Stored}
+use Rattle.recovery.specs.Stored.{Stored}
 use Rattle.disk_opening.specs.declared.logs.ChannelLog.{ChannelLog}
 use Rattle.disk_opening.proofs.DiskLists.{told_at}
 use Rattle.store_opening.specs.Left.{AreSyncedBelow, Leaves, leaves_at}

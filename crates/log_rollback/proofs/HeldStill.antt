@@ -1,13 +1,12 @@
 -- What the disks hold whatever a stop leaves they hold still, once a file of one of them was added to.
-use Rattle.std.proofs.Common.{◌≡◌, ◌≢◌, ◌⊎◌, ℕ, zero, suc, ◌+◌, ◌≤◌, ◌<◌, ◌==◌, Bool, true, false, IsTrue, if◌then◌else◌, List, [], ◌∷◌, length, set, get_or, map, Some, refl, sym, ap, ◌∙◌, subst, arith, inl, inr, length-set}
-use Rattle.std.proofs.lemmas.Bool.{cases_Bool, cases_eq, cond-false, cond-true, eqb-true, eq-eqb, ne_eqb, true≢false}
+use Rattle.std.proofs.Common.{◌≡◌, ◌≢◌, ℕ, ◌≤◌, ◌<◌, ◌==◌, Bool, true, false, IsTrue, if◌then◌else◌, List, [], length, set, get_or, map, refl, sym, ap, ◌∙◌, subst, arith, inl, inr, length-set}
+use Rattle.std.proofs.lemmas.Bool.{cases_eq, cond-false, cond-true, eq-eqb, ne_eqb}
 use Rattle.std.proofs.lemmas.List.{get_or-set_other, get_or-set_same, length-map}
 use Rattle.store_io.specs.Disk.{OthersStay}
 use Rattle.store_io.specs.Whole.{IsImage}
 use Rattle.gated_log.specs.Log.{Each, payloads_of}
 use Rattle.transactions_file.specs.Files.{is_live}
-use Rattle.transactions_file.specs.Inventory.{State, inventory_of}
-use Rattle.channel_files.specs.Chunks.{ranges_of}
+use Rattle.transactions_file.specs.Inventory.{State}
 use Rattle.channel_files.proofs.Within.{all_fit, two_up}
 use Rattle.channel.specs.Images.{HasLog, Image, IsLogFile, log_header, state_of}
 use Rattle.recovery.specs.Images.{image_at, types_header}
@@ -16,6 +15,7 @@ use Rattle.disk_opening.proofs.DiskLists.{told_at}
 use Rattle.store_opening.specs.Left.{Leaves, leaves_at}
 use Rattle.store_opening.specs.TakenBack.{AreAfter, IsAfter, IsTakenBack}
 use Rattle.store_opening.proofs.SyncedDisks.{told_there}
+use Rattle.log_rollback.specs.Finished.{HasSamePayloads}
 use Rattle.log_rollback.specs.Held.{Hold, MayLeave}
 use Rattle.log_rollback.proofs.OneDisk.{told_same, elsewhere}
 
@@ -182,3 +182,17 @@ module _ (law : KeepsHeld) {A : Type 0} (reads : A → Image) (leaves : A → Le
       law (images_before leaves xs j x y within 0 bytes was others.leaves images may) images what old
       (subst (λ (k : ℕ). AreAfter k (images_before leaves xs j x y within 0 bytes was others.leaves images may) images) (sym number)
       (are_after_log m j images bytes what (omega (arith, all)) old there))
+
+-- of the first disk the dictionary log
+module _ (law : KeepsHeld) {A : Type 0} (reads : A → Image) (leaves : A → Leaves) (xs : List A) (x y : A) (within : 0 < length xs) where
+  pub held_with_types : IsTrue (leaves (get_or xs 0 x) 1 (reads (get_or xs 0 x) 1)) → OthersStay 1 (reads (get_or xs 0 x)) (reads y) (leaves (get_or xs 0 x)) (leaves y)
+      → Each (leaves y 1) (HasSamePayloads (types_header (length xs)) (reads (get_or xs 0 x) 1))
+      → (what : Stored) → Hold (map leaves xs) what → Hold (map leaves (set xs 0 y)) what
+  held_with_types was others left what hold images may =
+      let bytes = reads (get_or xs 0 x) 1 in
+      let all = many_images leaves xs 0 x y within 1 bytes was others.leaves images may in
+      let old = hold (images_before leaves xs 0 x y within 1 bytes was others.leaves images may) (may_before leaves xs 0 x y within 1 bytes was others.leaves images may) in
+      let here = left (image_at images 0 1) (subst (λ (l : Leaves). IsTrue (l 1 (image_at images 0 1))) (told_there leaves xs 0 y nothing within)
+      (may.each 0 (omega (arith, length-map (set xs 0 y) leaves, length-set xs 0 y)) 1)) in
+      law (images_before leaves xs 0 x y within 1 bytes was others.leaves images may) images what old
+      (are_after_types what.number images bytes what (omega (arith, all)) old (subst (λ (k : ℕ). IsLogFile (types_header k) (image_at images 0 1)) (sym all) here.is_log) here.same)

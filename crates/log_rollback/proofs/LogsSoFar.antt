@@ -1,5 +1,5 @@
 -- The logs that were taken back so far, and one more.
-use Rattle.std.proofs.Common.{◌≡◌, ◌≢◌, ℕ, ◌+◌, ◌≤◌, ◌<◌, Bool, false, IsTrue, List, [], ◌∷◌, ◌++◌, length, get_or, map, Some, refl, sym, ap, ◌∙◌, subst, arith, inl, inr}
+use Rattle.std.proofs.Common.{◌≡◌, ◌≢◌, ℕ, ◌+◌, ◌<◌, false, IsTrue, List, [], ◌∷◌, ◌++◌, length, map, sym, ap, ◌∙◌, subst, arith, inl, inr}
 use Rattle.std.specs.Prelude.{slice_get}
 use Rattle.std.proofs.lemmas.Bool.{cases_eq, cases_order}
 use Rattle.std.proofs.lemmas.Option.{slice_get_within}
@@ -12,7 +12,7 @@ use Rattle.store_opening.specs.Left.{AreSyncedBelow, Leaves, leaves_at}
 use Rattle.store_opening.specs.TakenBack.{IsTakenBack}
 use Rattle.store_opening.proofs.SyncedDisks.{each_more}
 use Rattle.log_rollback.specs.Finished.{AllOthersStay, AreFinishedBelow, AreOpenAt, AreTakenBackOrNot, AreUntouchedFrom, HasHeader, HaveHeaders, IsFinished, IsOpenAt}
-use Rattle.log_rollback.specs.Full.{IsFirstFull, IsFullAt}
+use Rattle.log_rollback.specs.Full.{IsFullAt}
 use Rattle.log_rollback.proofs.OneDisk.{told_same}
 
 abbrev no_image : Image

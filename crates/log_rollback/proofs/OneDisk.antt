@@ -1,7 +1,7 @@
 -- A call of one of several disks.
-use Rattle.std.proofs.Common.{◌≡◌, ◌≢◌, ℕ, zero, suc, ◌+◌, ◌≤◌, ◌<◌, Bool, false, IsTrue, List, [], ◌∷◌, ◌++◌, length, set, get_or, map, Option, Some, None, refl, sym, ap, ◌∙◌, subst, arith, inl, inr}
+use Rattle.std.proofs.Common.{◌≡◌, ◌≢◌, ℕ, zero, suc, ◌<◌, false, IsTrue, List, [], ◌∷◌, length, set, get_or, map, refl, sym, ap, ◌∙◌, subst, inl, inr}
 use Rattle.std.specs.Prelude.{slice_get}
-use Rattle.std.proofs.lemmas.Bool.{cases_order}
+use Rattle.std.proofs.lemmas.Bool.{cases_eq}
 use Rattle.store_io.specs.Disk.{Only, OthersStay}
 use Rattle.gated_log.specs.Log.{Each, payloads_of}
 use Rattle.transactions_file.specs.Inventory.{State}
@@ -12,7 +12,7 @@ use Rattle.disk_opening.proofs.DiskLists.{told_at}
 use Rattle.store_opening.specs.Left.{Leaves, leaves_at}
 use Rattle.store_opening.specs.TakenBack.{IsTakenBack}
 use Rattle.store_opening.proofs.SyncedDisks.{told_there}
-use Rattle.log_rollback.specs.Finished.{IsFinished, IsOpenAt}
+use Rattle.log_rollback.specs.Finished.{AllOthersStay, IsFinished, IsOpenAt}
 
 pub elsewhere : {A : Type 0} (xs : List A) (j i : ℕ) (y : A) → i ≢ j → slice_get (set xs j y) i ≡ slice_get xs i
 elsewhere [] j i y ne = refl
@@ -67,6 +67,16 @@ module _ {A : Type 0} (reads : A → Image) (leaves : A → Leaves) (xs : List A
     reads = λ f ne. ap (λ (i : Image). i f) read_now ∙ others.reads f ne ∙ sym (ap (λ (i : Image). i f) read_before);
     leaves = λ f ne. ap (λ (l : Leaves). l f) left_now ∙ others.leaves f ne ∙ sym (ap (λ (l : Leaves). l f) left_before);
   }
+
+  -- and of all disks the other files
+  pub all_others : (file : ℕ) → OthersStay file (reads old) (reads y) (leaves old) (leaves y) → AllOthersStay file (map reads xs) (map reads (set xs j y)) (map leaves xs) (map leaves (set xs j y))
+  all_others file others i = elim (cases_eq i j) [
+    | inl e ↦ subst (λ (k : ℕ). OthersStay file (image_at (map reads xs) k) (image_at (map reads (set xs j y)) k) (leaves_at (map leaves xs) k) (leaves_at (map leaves (set xs j y)) k)) (sym e) (others_there file others)
+    | inr ne ↦ record {
+        reads = λ f other. ap (λ (k : Image). k f) (told_same reads (set xs j y) xs i none (elsewhere xs j i y ne));
+        leaves = λ f other. ap (λ (l : Leaves). l f) (told_same leaves (set xs j y) xs i nothing (elsewhere xs j i y ne));
+      }
+  ]
 
   pub open_there : (m : ℕ) (t : Transactions) → IsOpenAt m (reads y 0) t → IsOpenAt m (image_at (map reads (set xs j y)) j 0) t
   open_there m t is = subst (λ (i : Image). IsOpenAt m (i 0) t) (sym read_now) is

@@ -42,6 +42,11 @@ pub record IsOpenAt (m : ℕ) (file : List ℕ) (t : Transactions) : Type 0 wher
   pub kept : IsKept t file
   pub last : t.inventory.state.last ≡ m
 
+-- the file is a log with this header, or too short to have one, and has the payloads of the old one
+pub record HasSamePayloads (header old file : List ℕ) : Type 0 where
+  pub is_log : IsLogFile header file
+  pub same : payloads_of file ≡ payloads_of old
+
 -- ALL CHANNELS
 
 -- each of the logs has the header of its channel, of n

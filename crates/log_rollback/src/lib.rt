@@ -4,6 +4,8 @@
 mod all_logs;
 mod dropping;
 mod finishing;
+mod types;
 
 pub use all_logs::finish_logs;
 pub use finishing::finish_log;
+pub use types::finish_types;

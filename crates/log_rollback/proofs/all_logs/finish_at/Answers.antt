@@ -1,5 +1,5 @@
 -- One of the disks is taken back.
-use Rattle.std.proofs.Common.{◌≡◌, ◌∙◌, ℕ, List, [], length, get_or, map, set, sym, ap, subst}
+use Rattle.std.proofs.Common.{◌∙◌, ℕ, List, [], length, get_or, map, set, ap, subst}
 use Rattle.std.proofs.lemmas.Result.{IfOk-weaker, on_ok_weaker}
 use Rattle.gated_log.specs.Log.{Each, payloads_of}
 use Rattle.store_opening.specs.TakenBack.{IsTakenBack}

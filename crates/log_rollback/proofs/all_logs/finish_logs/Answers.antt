@@ -1,7 +1,6 @@
 -- The logs are taken back by rising channel.
-use Rattle.std.proofs.Common.{◌≡◌, ◌∙◌, ℕ, ◌+◌, ◌<◌, List, [], ◌∷◌, ◌++◌, Err, drop, length, map, refl, sym, ap, subst, arith}
+use Rattle.std.proofs.Common.{◌≡◌, ◌∙◌, ℕ, ◌+◌, List, [], ◌∷◌, ◌++◌, Err, drop, length, map, refl, sym, ap, subst, arith}
 use Rattle.std.specs.Vec.Iter.{into_iter_items}
-use Rattle.std.proofs.lemmas.Bool.{cases_lt}
 use Rattle.std.proofs.lemmas.List.{length-map, length_push}
 use Rattle.store_io.specs.Disk.{Only}
 use Rattle.gated_log.specs.Log.{Each, payloads_of}
@@ -15,7 +14,7 @@ use Rattle.store_opening.specs.TakenBack.{IsTakenBack}
 use Rattle.store_opening.specs.declared.fault.OpenFault.TheVariants.{Full}
 use Rattle.store_opening.proofs.LogsSoFar.{same_fault}
 use Rattle.store_opening.proofs.SyncedDisks.{none_at_first}
-use Rattle.log_rollback.specs.Finished.{AreOpenAt, AreUntouchedFrom, HasHeader, HaveHeaders, IsFinished, IsOpenAt}
+use Rattle.log_rollback.specs.Finished.{AreOpenAt, HasHeader, HaveHeaders, IsFinished, IsOpenAt}
 use Rattle.log_rollback.specs.Full.{IsFullAt}
 use Rattle.log_rollback.proofs.Agreed.{agrees_at, if_err_any, left_at_first, next_item, number_held}
 use Rattle.log_rollback.proofs.LogsSoFar.{below_more, finished_more, finished_on, full_first, full_now, headers_more, left_first, left_on, open_more, others_on, read_first, synced_more, untouched_on}
