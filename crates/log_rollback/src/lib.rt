@@ -4,8 +4,10 @@
 mod all_logs;
 mod dropping;
 mod finishing;
+mod laws;
 mod types;
 
 pub use all_logs::finish_logs;
 pub use finishing::finish_log;
+pub use laws::finished_channels_are_ready;
 pub use types::finish_types;

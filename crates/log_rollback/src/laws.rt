@@ -1,0 +1,12 @@
+//! A law on channels whose logs were taken back.
+ghost use Rattle.std.specs.Prelude.{ℕ};
+ghost use Rattle.transactions_file.specs.Transactions.{Transactions};
+ghost use Rattle.channel.specs.Images.{Image};
+ghost use Rattle.store_opening.specs.Left.{Leaves};
+ghost use Rattle.log_rollback.specs.Ready.{IsReadyToStart, IsRolledBack};
+
+/// Where the disk of a channel was found right and its log was taken back, what a channel is made with is there: the log and the chunks, in what is read and
+/// in what a stop leaves.
+pub fn finished_channels_are_ready()
+    ensures { (n j next m : ℕ) (old new : Image) (leaves : Leaves) (t : Transactions) → IsRolledBack n j next m old new leaves t → IsReadyToStart n j next m new leaves t }
+{}
