@@ -1,7 +1,7 @@
 -- A live file is as long as its last chunk says: its length in the inventory is 0, or the end of one of the chunks.
-use Rattle.std.proofs.Common.{inl, inr, ◌≡◌, ◌≢◌, ◌⊎◌, ℕ, ◌+◌, ◌-◌, ◌≤◌, ◌<◌, ◌==◌, nat_le, not, Bool, true, false, ◌&&◌, cond, List, [], ◌∷◌, ◌++◌, length, take, Option, Some, None, Result, Ok, Err, refl, sym, ◌∙◌, ap, subst, arith}
-use Rattle.std.specs.List.{AllByRecursion, filter}
-use Rattle.std.proofs.lemmas.Bool.{and_parts, cases_Bool, cond-false, cond-true, eq-eqb, eqb-true, le-leb}
+use Rattle.std.proofs.Common.{inl, inr, ◌≡◌, ◌≢◌, ◌⊎◌, ℕ, ◌+◌, ◌-◌, ◌==◌, not, Bool, true, false, cond, List, [], ◌∷◌, ◌++◌, length, take, Option, Some, None, Result, Ok, Err, refl, sym, ◌∙◌, ap, subst, arith}
+use Rattle.std.specs.List.{filter}
+use Rattle.std.proofs.lemmas.Bool.{and_parts, cases_Bool, cond-false, cond-true, eq-eqb, eqb-true}
 use Rattle.std.proofs.lemmas.List.{length_push, take_at}
 use Rattle.std.proofs.lemmas.List.Folds.{fold_along}
 use Rattle.tx_entry.specs.declared.entry.Entry.{Entry}
@@ -13,9 +13,7 @@ use Rattle.transactions_file.specs.Inventory.{IsSound, State, add, after, allowe
 use Rattle.transactions_file.proofs.Lengths.{dead_length, length_set, length_set_other, length_without, live_set, live_without, length_push as length_create}
 use Rattle.transactions_file.proofs.Sound.{sound_after}
 use Rattle.channel_files.specs.Chunks.{Range, ranges_after, ranges_of, ranges_step, ranges_with, stands_elsewhere}
-use Rattle.channel_files.proofs.Within.{AllWithin, IsBehind, by_file, store_behind, store_nowhere, zero_set}
-use Rattle.channel.specs.ChunkRule.{IsRightRange}
-use Rattle.channel.specs.Images.{Image}
+use Rattle.channel_files.proofs.Within.{IsBehind, by_file, store_behind, store_nowhere, zero_set}
 
 -- one of the chunks ends there
 abbrev pub HasRangeTo : (f n : ℕ) → List Range → Type 0

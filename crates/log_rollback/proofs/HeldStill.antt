@@ -12,7 +12,7 @@ use Rattle.channel.specs.Images.{HasLog, Image, IsLogFile, log_header, state_of}
 use Rattle.recovery.specs.Images.{image_at, types_header}
 use Rattle.recovery.specs.Stored.{IsStored, Stored}
 use Rattle.disk_opening.proofs.DiskLists.{told_at}
-use Rattle.store_opening.specs.Left.{Leaves, leaves_at}
+use Rattle.store_opening.specs.Left.{LeaveNoMore, Leaves, leaves_at}
 use Rattle.store_opening.specs.TakenBack.{AreAfter, IsAfter, IsTakenBack}
 use Rattle.store_opening.proofs.SyncedDisks.{told_there}
 use Rattle.log_rollback.specs.Finished.{HasSamePayloads}
@@ -162,6 +162,12 @@ module _ (m : ℕ) (images : List Image) (bytes : List ℕ) (what : Stored) (wit
     }
 
 -- HELD STILL
+
+pub held_of_less : (old new : List Leaves) (what : Stored) → LeaveNoMore old new → Hold old what → Hold new what
+held_of_less old new what less hold images may = hold images record {
+  many = may.many ∙ less.many;
+  each = λ j lt file. less.each j file (image_at images j file) (may.each j (omega (arith, lt, less.many)) file);
+}
 
 abbrev pub KeepsHeld : Type 0
 KeepsHeld = (old new : List Image) (what : Stored) → IsStored old what → AreAfter what.number old new → IsStored new what

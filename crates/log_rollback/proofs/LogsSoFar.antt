@@ -21,6 +21,12 @@ no_image = λ (file : ℕ). []
 abbrev nothing : Leaves
 nothing = λ (file : ℕ) (bytes : List ℕ). false
 
+pub finished_at_first : (n m : ℕ) (old new : List Image) → AreFinishedBelow n m 0 old new
+finished_at_first n m old new i below = absurd (omega arith)
+
+pub synced_at_first : (file : ℕ) (images : List Image) (leaves : List Leaves) → AreSyncedBelow 0 file images leaves
+synced_at_first file images leaves i below = absurd (omega arith)
+
 -- one more of what holds below a number
 pub below_more : (P : ℕ → Type 0) (place : ℕ) → ((i : ℕ) → i < place → P i) → P place → (i : ℕ) → i < place + 1 → P i
 below_more P place all here i below = elim (cases_order i place) [

@@ -73,9 +73,9 @@ module _ {A : Type 0} (reads : A → Image) (leaves : A → Leaves) (xs : List A
   all_others file others i = elim (cases_eq i j) [
     | inl e ↦ subst (λ (k : ℕ). OthersStay file (image_at (map reads xs) k) (image_at (map reads (set xs j y)) k) (leaves_at (map leaves xs) k) (leaves_at (map leaves (set xs j y)) k)) (sym e) (others_there file others)
     | inr ne ↦ record {
-        reads = λ f other. ap (λ (k : Image). k f) (told_same reads (set xs j y) xs i none (elsewhere xs j i y ne));
-        leaves = λ f other. ap (λ (l : Leaves). l f) (told_same leaves (set xs j y) xs i nothing (elsewhere xs j i y ne));
-      }
+      reads = λ f other. ap (λ (k : Image). k f) (told_same reads (set xs j y) xs i none (elsewhere xs j i y ne));
+      leaves = λ f other. ap (λ (l : Leaves). l f) (told_same leaves (set xs j y) xs i nothing (elsewhere xs j i y ne));
+    }
   ]
 
   pub open_there : (m : ℕ) (t : Transactions) → IsOpenAt m (reads y 0) t → IsOpenAt m (image_at (map reads (set xs j y)) j 0) t

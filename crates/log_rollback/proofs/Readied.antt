@@ -1,18 +1,16 @@
 -- A channel whose log was taken back can be made.
-use Rattle.std.proofs.Common.{◌≡◌, ◌⊎◌, ℕ, zero, suc, ◌+◌, ◌≤◌, ◌<◌, nat_le, Bool, true, false, IsTrue, cond, List, [], ◌∷◌, length, take, drop, get_or, map, unwrap_or, Option, Some, refl, sym, ap, ◌∙◌, subst, arith, inl, inr, ⊎_elim}
+use Rattle.std.proofs.Common.{◌≡◌, ℕ, zero, suc, ◌+◌, ◌≤◌, nat_le, Bool, true, false, IsTrue, cond, List, [], ◌∷◌, length, take, map, unwrap_or, Option, sym, ap, ◌∙◌, subst, arith, inl, inr, ⊎_elim}
 use Rattle.std.specs.Prelude.{All}
 use Rattle.std.specs.List.{AllByRecursion, filter}
 use Rattle.std.proofs.lemmas.Bool.{cases_Bool, cond-true, le-leb}
-use Rattle.store_io.specs.Disk.{Only}
 use Rattle.gated_log.specs.Log.{IsLogOf, payloads_of}
-use Rattle.tx_entry.specs.declared.entry.Entry.TheVariants.{Truncation}
 use Rattle.transactions_file.specs.Files.{is_live, length_in}
-use Rattle.transactions_file.specs.Inventory.{State, after, start}
+use Rattle.transactions_file.specs.Inventory.{State, start}
 use Rattle.transactions_file.specs.Transactions.{Transactions}
 use Rattle.transactions_file.proofs.Lengths.{dead_length, live_set}
 use Rattle.data_file.specs.Chunks.{IsChunk}
 use Rattle.channel_files.specs.Chunks.{Chunk, Range, chunk_at, ranges_of}
-use Rattle.channel_files.specs.Images.{AgreesBelow, IsAsRead}
+use Rattle.channel_files.specs.Images.{AgreesBelow}
 use Rattle.channel_files.specs.Table.{up_to}
 use Rattle.channel_files.proofs.Within.{AllWithin, Fits, all_fit, two_up}
 use Rattle.channel.specs.ChunkRule.{IsRightChunk, IsRightRange}

@@ -9,5 +9,5 @@ mod types;
 
 pub use all_logs::finish_logs;
 pub use finishing::finish_log;
-pub use laws::finished_channels_are_ready;
+pub use laws::{finished_channels_are_ready, less_left_holds_the_same};
 pub use types::finish_types;

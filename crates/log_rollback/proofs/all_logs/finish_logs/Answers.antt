@@ -17,7 +17,7 @@ use Rattle.store_opening.proofs.SyncedDisks.{none_at_first}
 use Rattle.log_rollback.specs.Finished.{AreOpenAt, HasHeader, HaveHeaders, IsFinished, IsOpenAt}
 use Rattle.log_rollback.specs.Full.{IsFullAt}
 use Rattle.log_rollback.proofs.Agreed.{agrees_at, if_err_any, left_at_first, next_item, number_held}
-use Rattle.log_rollback.proofs.LogsSoFar.{below_more, finished_more, finished_on, full_first, full_now, headers_more, left_first, left_on, open_more, others_on, read_first, synced_more, untouched_on}
+use Rattle.log_rollback.proofs.LogsSoFar.{below_more, finished_at_first, finished_more, finished_on, full_first, full_now, headers_more, left_first, left_on, open_more, others_on, read_first, synced_at_first, synced_more, untouched_on}
 use Rattle.log_rollback.proofs.all_logs.finish_logs.Goals as goal
 
 pub logs-init : goal.logs-init
@@ -32,8 +32,8 @@ logs-init g c =
       untouched = λ i le. refl;
       headers = none_at_first (λ (j : ℕ) (t : Transactions). HasHeader (log_header n j) t) c.new-finished.result.items none;
       are_open = λ tells. none_at_first (λ (j : ℕ) (t : Transactions). IsOpenAt c.args.common (image_at images j 0) t) c.new-finished.result.items none;
-      done = λ tells i below. absurd (omega arith);
-      synced = λ tells i below. absurd (omega arith);
+      done = λ tells. finished_at_first n c.args.common images images;
+      synced = λ tells. synced_at_first 0 images (map g.D.Disk.leaves c.args.disks.now);
       left = λ tells. left_at_first n c.args.common images (map g.D.Disk.leaves c.args.disks.now) c.args.logs.items c.requires.many (c.requires.read tells) (c.requires.synced tells);
       others = λ tells j. record { reads = λ f ne. refl; leaves = λ f ne. refl };
       not_full = λ tells j below. absurd (omega arith);

@@ -44,12 +44,11 @@ returns-in_err-index-clause-damaged g c tells j cause is =
     let images = map g.D.Disk.reads c.args.disks.now in
     let place = c.chunks.place in
     let was = same_fault c.from_residual.result c.in_err-index.field-0.0 (Damaged j cause) c.from_residual.ensures.1 is in
-    let told = c.in_err-index.ensures.damaged tells j cause (ap Err was) in
-    (
+    let told = c.in_err-index.ensures.damaged tells j cause (ap Err was) in (
       told.1,
       first_wrong_chunk n c.args.number c.args.next_id j place images (length-map c.args.disks.now g.D.Disk.reads) (omega arith) (so.right tells) told.0
-      (λ right. told.2 (subst (λ (k : ℕ). HasRightChunks k place c.args.next_id c.args.number (image_at (map g.D.Disk.reads c.chunks.disks) place)) (sym so.many)
-      (subst (λ (is : List Image). HasRightChunks n place c.args.next_id c.args.number (image_at is place)) (sym (so.reads tells)) right))),
+          (λ right. told.2 (subst (λ (k : ℕ). HasRightChunks k place c.args.next_id c.args.number (image_at (map g.D.Disk.reads c.chunks.disks) place)) (sym so.many)
+          (subst (λ (is : List Image). HasRightChunks n place c.args.next_id c.args.number (image_at is place)) (sym (so.reads tells)) right))),
     )
 
 pub chunks-preserved : goal.chunks-preserved
