@@ -5,10 +5,10 @@ use Rattle.std.proofs.lemmas.List.{length-take, get_or-set_same}
 use Rattle.entity_region.specs.Space.{Space, size, most, live, free, rounded, block_at, written, with_block, with_bytes, Placed, AreWritten, HasNoHole, IsPacked, IsTaken}
 use Rattle.entity_cache.specs.declared.kept.Kept.TheVariants.{Yes, NoMemory}
 use Rattle.entity_cache.specs.Contents.{most_entries}
-use Rattle.entity_cache.specs.Cached.{block_of, content_of, without, IsHeld, ForeignStay, StaysOrLeaves, HaveLeft, LastUsedStay, IsRoom}
+use Rattle.entity_cache.specs.Cached.{block_of, content_of, without, IsHeld, ForeignStay, StaysOrLeaves, HaveLeft, LastUsedStay, IsAside, IsRoom}
 use Rattle.entity_cache.specs.Keeping.{HasRoom, HasKept}
 use Rattle.entity_cache.proofs.Lookups.{without_front, without_fewer, removed_none as without_none}
-use Rattle.entity_cache.proofs.HeldLemmas.{left_none, left_packed, left_again, left_again_given, content_again_given, held_kept, content_kept, content_others, foreign_kept, foreign_again, stays_again, none_stays, hole_for}
+use Rattle.entity_cache.proofs.HeldLemmas.{left_none, left_packed, left_again, left_again_given, content_again_given, held_taken, content_taken, apart_taken, held_kept, content_kept, content_others, foreign_kept, foreign_again, stays_again, none_stays, hole_for}
 
 length_written : (xs w : List ℕ) (at : ℕ) → at + length w ≤ length xs → length (written xs at w) ≡ length xs
 length_written xs w at inside = simp (length-take, length-append, length-drop) (omega arith)
@@ -112,3 +112,26 @@ module _ (region bare : Space) (cache less : List (ℕ × ℕ)) (id n : ℕ) (or
 
   pub blocks_left : live bare < most bare
   blocks_left = let few = room.blocks in let count = foreign.count_stays in let same = foreign.most_stays in let less = shorter in omega arith
+
+-- ---- a block for something else
+
+module _ (region roomy after : Space) (cache fewer last : List (ℕ × ℕ)) (left : HaveLeft region cache roomy fewer) where
+  module _ (n number : ℕ) (room : HasRoom roomy fewer after last n number) where
+    all_aside : HaveLeft region cache room.before last
+    all_aside = left_again region roomy room.before cache fewer last left room.left
+
+    pub held_aside : IsHeld after last
+    held_aside = held_taken room.before after last n number room.left.held room.taken
+
+    pub others_aside : (id : ℕ) → StaysOrLeaves region cache after last id
+    others_aside id = subst (λ content. (content ≡ content_of region cache id) ⊎ (content ≡ None)) (sym (content_taken room.before after last n number room.left.held room.taken id)) (all_aside.all id)
+
+    pub last_aside : LastUsedStay cache last
+    last_aside = all_aside.last_used
+
+    pub is_aside : IsAside region cache after last n number
+    is_aside = record { before = room.before; foreign = all_aside.foreign; taken = room.taken; apart = apart_taken room.before after last n number room.left.held room.taken }
+
+  module _ (now : HaveLeft roomy fewer after last) where
+    pub all_gone : HaveLeft region cache after last
+    all_gone = left_again region roomy after cache fewer last left now

@@ -204,6 +204,10 @@ pub if_absent : {A : Type 0} (o : Option A) (P : Type 0) → (o ≡ None → P) 
 if_absent None P all = all refl
 if_absent (Some x) P all = tt
 
+pub either : {A : Type 0} (o : Option A) (P : Type 0) → ((x : A) → o ≡ Some x → P) → (o ≡ None → P) → P
+either None P some none = none refl
+either (Some x) P some none = some x refl
+
 pub on_ok : {A E : Type 0} (r : Result A E) (P : Type 0) → P → OnOk r P
 on_ok (Ok x) P holds = holds
 on_ok (Err e) P holds = tt

@@ -3,7 +3,7 @@
 use Rattle.std.specs.Prelude.{◌≡◌, ◌≢◌, ℕ, ◌+◌, ◌-◌, ◌<◌, ◌≤◌, ◌⊎◌, List, ◌∷◌, length, take, Option, None, Some, nat_eq}
 use Rattle.std.specs.Map.{remove_entry}
 use Rattle.std.specs.Option.{option_and_then}
-use Rattle.entity_region.specs.Space.{Space, size, most, live, free, rounded, bytes_at, IsLive, IsHole}
+use Rattle.entity_region.specs.Space.{Space, size, most, live, free, rounded, bytes_at, IsLive, IsHole, IsTaken}
 use Rattle.entity_cache.specs.Contents.{found_at, most_entries}
 
 -- the block of an id, if it is cached
@@ -66,3 +66,10 @@ pub record HaveLeft (old_region : Space) (old_cache : List (ℕ × ℕ)) (region
   pub foreign : ForeignStay old_region old_cache region cache
   pub fewer : length cache ≤ length old_cache
   pub last_used : LastUsedStay old_cache cache
+
+-- a block of n bytes came that holds no cached content, once some ids had left
+pub record IsAside (old_region : Space) (old_cache : List (ℕ × ℕ)) (region : Space) (cache : List (ℕ × ℕ)) (n number : ℕ) : Type 0 where
+  pub before : Space
+  pub foreign : ForeignStay old_region old_cache before cache
+  pub taken : IsTaken before region n number
+  pub apart : IsForeign cache number

@@ -4,7 +4,7 @@ ghost use Rattle.std.specs.Prelude.{◌≡◌, ◌≢◌, ℕ, ◌+◌, ◌<◌,
 ghost use Rattle.lru.specs.LruCache.{promoted};
 ghost use Rattle.entity_region.specs.Space.{Space, live, most, free, rounded, IsTaken, IsHole, HasNoHole};
 ghost use Rattle.entity_cache.specs.Contents.{most_entries};
-ghost use Rattle.entity_cache.specs.Cached.{block_of, content_of, without, IsHeld, ForeignStay, StaysOrLeaves, HaveLeft, LastUsedStay, IsNewest, IsOneHole, IsRoom};
+ghost use Rattle.entity_cache.specs.Cached.{block_of, content_of, without, IsHeld, ForeignStay, StaysOrLeaves, HaveLeft, LastUsedStay, IsNewest, IsAside, IsOneHole, IsRoom};
 ghost use Rattle.entity_cache.specs.Keeping.{HasRoom, HasKept, IsFresh};
 ghost use Rattle.entity_cache.specs.declared.kept.Kept.TheVariants.{Yes, NoHole};
 
@@ -93,7 +93,7 @@ impl EntityCache {
     {
         self.forget(region, id);
         self.make_room(region);
-        match self.take(region, bytes.len()) {
+        match self.find(region, bytes.len()) {
             Some(block) => self.put(region, id, block, bytes),
             None => Kept::NoHole,
         }
@@ -113,6 +113,27 @@ impl EntityCache {
             Some(block) => region.give(block),
             None => {}
         }
+    }
+
+    /// Takes a block of n bytes for something else than a content. The ids that were not used for the longest time are
+    /// given up for it, as far as there is need.
+    pub fn take(&mut self, region: &mut Region, n: usize) -> Option<Block>
+        requires held { IsHeld region.old self.old }
+        requires some { 0 < n }
+        requires few { n < 2 ^ 63 }
+        requires room { live region.old < most region.old + length self.old }
+        ensures held { IsHeld region.new self.new }
+        ensures others { (id : ℕ) → StaysOrLeaves region.old self.old region.new self.new id }
+        ensures last_used { LastUsedStay self.old self.new }
+        ensures taken { IfSome result (λ block. IsAside region.old self.old region.new self.new n block) }
+        ensures room { IsRoom region.old self.old n → self.new ≡ self.old }
+        ensures foreign { IfNone result (ForeignStay region.old self.old region.new self.new) }
+        ensures empty { IfNone result (self.new ≡ []) }
+        ensures one_hole { IfNone result (IsOneHole region.new) }
+        ensures no_hole { IfNone result (HasNoHole region.new (rounded n)) }
+    {
+        self.make_room(region);
+        self.find(region, n)
     }
 
     /// Gives up the id that was not used for the longest time, and answers whether there was one.
@@ -158,7 +179,7 @@ impl EntityCache {
 
     /// A block of so many bytes. Where the region has no hole for it, as many of the ids that were not used for the
     /// longest time are given up as need be, and the region is packed.
-    fn take(&mut self, region: &mut Region, n: usize) -> Option<Block>
+    fn find(&mut self, region: &mut Region, n: usize) -> Option<Block>
         requires held { IsHeld region.old self.old }
         requires some { 0 < n }
         requires few { n < 2 ^ 63 }

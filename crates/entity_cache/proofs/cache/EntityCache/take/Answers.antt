@@ -1,30 +1,20 @@
-use Rattle.std.proofs.Common.{◌≡◌, ◌*◌, IfSome, IfNone, arith, sym, subst}
-use Rattle.entity_region.specs.Space.{rounded, IsTaken, HasNoHole}
-use Rattle.entity_cache.specs.Cached.{HaveLeft}
-use Rattle.entity_cache.proofs.Lookups.{if_absent, if_there}
-use Rattle.entity_cache.proofs.KeepLemmas.{room_packed, empty_packed}
+use Rattle.std.proofs.Common.{◌≡◌, Some, IfSome, IfNone, sym, subst, ◌∙◌}
+use Rattle.entity_region.specs.Space.{rounded, IsHole, HasNoHole}
+use Rattle.entity_cache.specs.Keeping.{HasRoom}
+use Rattle.entity_cache.proofs.Lookups.{either, if_there}
+use Rattle.entity_cache.proofs.KeepLemmas.{is_aside}
 use Rattle.entity_cache.proofs.cache.EntityCache.take.Goals as goal
 
-pub returns-in-None-clause-taken : goal.returns-in-None-clause-taken
-returns-in-None-clause-taken c =
-    let left = subst (λ r. HaveLeft r c.args.self.now c.give_up_for.new.region c.give_up_for.new.self) c.in-None.ensures.unchanged c.give_up_for.ensures.left in
-    if_there c.take-in-None.result _ (λ block is. room_packed c.args.region.now c.give_up_for.new.region c.pack.new.self c.args.self.now c.give_up_for.new.self c.args.n left c.pack.ensures c.take-in-None.new.self block
-    (subst (λ o. IfSome o (λ b. IsTaken c.pack.new.self c.take-in-None.new.self c.args.n b)) is c.take-in-None.ensures.taken))
+pub returns-clause-taken : goal.returns-clause-taken
+returns-clause-taken c = if_there c.find.result _ (λ block is.
+    is_aside c.args.region.now c.make_room.new.region c.find.new.region c.args.self.now c.make_room.new.self c.find.new.self c.make_room.ensures.left c.args.n block
+    (subst (λ o. IfSome o (λ b. HasRoom c.make_room.new.region c.make_room.new.self c.find.new.region c.find.new.self c.args.n b)) is c.find.ensures.taken))
 
-pub returns-in-None-clause-empty : goal.returns-in-None-clause-empty
-returns-in-None-clause-empty c =
-    let left = subst (λ r. HaveLeft r c.args.self.now c.give_up_for.new.region c.give_up_for.new.self) c.in-None.ensures.unchanged c.give_up_for.ensures.left in
-    let units = c.div_ceil.ensures in
-    let wanted : 16 * c.div_ceil.result ≡ rounded c.args.n = omega arith in
-    if_absent c.take-in-None.result _ (λ is. empty_packed c.args.region.now c.give_up_for.new.region c.pack.new.self c.args.self.now c.give_up_for.new.self c.args.n left c.pack.ensures (16 * c.div_ceil.result) wanted c.give_up_for.ensures.enough
-    (subst (λ o. IfNone o (HasNoHole c.pack.new.self (rounded c.args.n))) is c.take-in-None.ensures.none))
-
-pub returns-in-None-clause-none : goal.returns-in-None-clause-none
-returns-in-None-clause-none c = if_absent c.take-in-None.result _ (λ is.
-    subst (λ r. HasNoHole r (rounded c.args.n)) (sym (subst (λ o. IfNone o (c.take-in-None.new.self ≡ c.pack.new.self)) is c.take-in-None.ensures.unchanged)) (subst (λ o. IfNone o (HasNoHole c.pack.new.self (rounded c.args.n))) is c.take-in-None.ensures.none))
-
-pub returns-in-None-clause-same : goal.returns-in-None-clause-same
-returns-in-None-clause-same c = if_there c.take-in-None.result _ (λ block is at hole. absurd (c.in-None.ensures.none at hole))
-
-pub returns-in-None-clause-first : goal.returns-in-None-clause-first
-returns-in-None-clause-first c = if_there c.take-in-None.result _ (λ block is at hole. absurd (c.in-None.ensures.none at hole))
+pub returns-clause-room : goal.returns-clause-room
+returns-clause-room c = λ room.
+    let region = c.make_room.ensures.same_region room.entries room.blocks in
+    let cache = c.make_room.ensures.same_cache room.entries room.blocks in
+    let hole = subst (λ r. IsHole r room.at (rounded c.args.n)) (sym region) room.hole in
+    either c.find.result _
+    (λ block is. subst (λ o. IfSome o (λ b. (at : _) → IsHole c.make_room.new.region at (rounded c.args.n) → c.find.new.self ≡ c.make_room.new.self)) is c.find.ensures.same room.at hole ∙ cache)
+    (λ none. absurd (subst (λ o. IfNone o (HasNoHole c.make_room.new.region (rounded c.args.n))) none c.find.ensures.full room.at hole))
