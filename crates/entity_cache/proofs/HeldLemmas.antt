@@ -365,26 +365,6 @@ module _ (before taken : Space) (cache : List (ℕ × ℕ)) (n number : ℕ) (he
   pub apart_taken : IsForeign cache number
   apart_taken id has = let dead : is_some (block_at before number) ≡ false = ap is_some is.fresh in let lives = held.live id number has in absurd cc
 
-  bytes_taken : (m : ℕ) → m ≢ number → bytes_at taken m ≡ bytes_at before m
-  bytes_taken m differs = ap (λ s. bytes_at s m) is.becomes ∙ bytes_other before number m (Some (record { at = is.at; len = n })) (λ same. differs (sym same))
-
-  other_than : (id m : ℕ) → block_of cache id ≡ Some m → m ≢ number
-  other_than id m has same = apart_taken id (subst (λ k. block_of cache id ≡ Some k) same has)
-
-  pub held_taken : IsHeld taken cache
-  held_taken = record {
-    live = λ id m has. live_by_bytes before taken m (bytes_taken m (other_than id m has)) (held.live id m has);
-    distinct = held.distinct;
-  }
-
-  pub content_taken : (id : ℕ) → content_of taken cache id ≡ content_of before cache id
-  content_taken id = go (block_of cache id) refl
-    where
-      go : (o : Option ℕ) → block_of cache id ≡ o → content_of taken cache id ≡ content_of before cache id
-      go None none = ap (option_and_then (bytes_at taken)) none ∙ sym (ap (option_and_then (bytes_at before)) none)
-      go (Some m) some =
-          ap (option_and_then (bytes_at taken)) some ∙ bytes_taken m (other_than id m some) ∙ sym (ap (option_and_then (bytes_at before)) some)
-
 -- ---- holes
 
 -- a block that ends leaves every hole

@@ -1,14 +1,14 @@
 -- How a block for a content is found, and what stands once it was kept.
-use Rattle.std.proofs.Common.{◌≡◌, ◌≢◌, ℕ, ◌+◌, ◌<◌, ◌≤◌, ◌⊎◌, List, [], ◌∷◌, length, take, Some, None, refl, sym, ap, subst, ◌∙◌, arith, inl, inr, length-append, length-drop}
+use Rattle.std.proofs.Common.{◌≡◌, ℕ, ◌+◌, ◌<◌, ◌≤◌, ◌⊎◌, List, [], ◌∷◌, length, Some, None, refl, sym, ap, subst, ◌∙◌, arith, inl, inr, length-append, length-drop}
 use Rattle.std.specs.Option.{option_map_or}
 use Rattle.std.proofs.lemmas.List.{length-take, get_or-set_same}
 use Rattle.entity_region.specs.Space.{Space, size, most, live, free, rounded, block_at, written, with_block, with_bytes, Placed, AreWritten, HasNoHole, IsPacked, IsTaken}
 use Rattle.entity_cache.specs.declared.kept.Kept.TheVariants.{Yes, NoMemory}
 use Rattle.entity_cache.specs.Contents.{most_entries}
-use Rattle.entity_cache.specs.Cached.{block_of, content_of, without, IsHeld, ForeignStay, StaysOrLeaves, HaveLeft, LastUsedStay, IsAside, IsRoom}
+use Rattle.entity_cache.specs.Cached.{block_of, without, IsHeld, ForeignStay, HaveLeft, IsAside, IsRoom}
 use Rattle.entity_cache.specs.Keeping.{HasRoom, HasKept}
 use Rattle.entity_cache.proofs.Lookups.{without_front, without_fewer, removed_none as without_none}
-use Rattle.entity_cache.proofs.HeldLemmas.{left_none, left_packed, left_again, left_again_given, content_again_given, held_taken, content_taken, apart_taken, held_kept, content_kept, content_others, foreign_kept, foreign_again, stays_again, none_stays, hole_for}
+use Rattle.entity_cache.proofs.HeldLemmas.{left_none, left_packed, left_again, left_again_given, content_again_given, apart_taken, held_kept, content_kept, content_others, foreign_kept, foreign_again, hole_for}
 
 length_written : (xs w : List ℕ) (at : ℕ) → at + length w ≤ length xs → length (written xs at w) ≡ length xs
 length_written xs w at inside = simp (length-take, length-append, length-drop) (omega arith)
@@ -75,32 +75,12 @@ sized_written before taken n number bytes is len =
     let inside = is.hole.inside in
     ap (λ at. length (written taken.memory at bytes)) begins ∙ length_written taken.memory bytes is.at (omega arith)
 
--- ---- the whole of a call: an id is forgotten, others leave for room, and a block comes
+-- ---- the whole of a call: an id is forgotten, and others leave for room
 
-module _ (region bare roomy : Space) (cache less fewer last : List (ℕ × ℕ)) (id : ℕ) (gone : block_of less id ≡ None)
-    (others : (other : ℕ) → other ≢ id → content_of bare less other ≡ content_of region cache other) (foreign : ForeignStay region cache bare less)
-    (order : less ≡ without id cache) (left : HaveLeft bare less roomy fewer) where
-  module _ (after : Space) (now : HaveLeft roomy fewer after last) where
-    all_left : HaveLeft bare less after last
-    all_left = left_again bare roomy after less fewer last left now
-
-    pub none_last : block_of last id ≡ None
-    none_last = none_stays bare after less last id all_left gone
-
-    pub others_last : (other : ℕ) → other ≢ id → StaysOrLeaves region cache after last other
-    others_last other differs = stays_again region bare after cache less last other (inl (others other differs)) (all_left.all other)
-
-    pub foreign_last : ForeignStay region cache after last
-    foreign_last = foreign_again region bare after cache less last foreign all_left.foreign
-
-    pub order_last : LastUsedStay (without id cache) last
-    order_last = all_left.last_used ∙ ap (take (length last)) order
-
-    pub order_bare : LastUsedStay (without id cache) (without id last)
-    order_bare = subst (LastUsedStay (without id cache)) (sym (without_none last id none_last)) order_last
-
-    pub order_kept : (kept : List (ℕ × ℕ)) → without id kept ≡ last → LastUsedStay (without id cache) (without id kept)
-    order_kept kept rest = subst (LastUsedStay (without id cache)) (sym rest) order_last
+pub foreign_last : (region bare roomy after : Space) (cache less fewer last : List (ℕ × ℕ)) → ForeignStay region cache bare less → HaveLeft bare less roomy fewer → HaveLeft roomy fewer after last
+    → ForeignStay region cache after last
+foreign_last region bare roomy after cache less fewer last foreign left now =
+    foreign_again region bare after cache less last foreign (left_again bare roomy after less fewer last left now).foreign
 
 -- where there is room for a content, there is room once its id was forgotten
 module _ (region bare : Space) (cache less : List (ℕ × ℕ)) (id n : ℕ) (order : less ≡ without id cache) (foreign : ForeignStay region cache bare less) (room : IsRoom region cache n) where
@@ -115,23 +95,10 @@ module _ (region bare : Space) (cache less : List (ℕ × ℕ)) (id n : ℕ) (or
 
 -- ---- a block for something else
 
-module _ (region roomy after : Space) (cache fewer last : List (ℕ × ℕ)) (left : HaveLeft region cache roomy fewer) where
-  module _ (n number : ℕ) (room : HasRoom roomy fewer after last n number) where
-    all_aside : HaveLeft region cache room.before last
-    all_aside = left_again region roomy room.before cache fewer last left room.left
-
-    pub held_aside : IsHeld after last
-    held_aside = held_taken room.before after last n number room.left.held room.taken
-
-    pub others_aside : (id : ℕ) → StaysOrLeaves region cache after last id
-    others_aside id = subst (λ content. (content ≡ content_of region cache id) ⊎ (content ≡ None)) (sym (content_taken room.before after last n number room.left.held room.taken id)) (all_aside.all id)
-
-    pub last_aside : LastUsedStay cache last
-    last_aside = all_aside.last_used
-
-    pub is_aside : IsAside region cache after last n number
-    is_aside = record { before = room.before; foreign = all_aside.foreign; taken = room.taken; apart = apart_taken room.before after last n number room.left.held room.taken }
-
-  module _ (now : HaveLeft roomy fewer after last) where
-    pub all_gone : HaveLeft region cache after last
-    all_gone = left_again region roomy after cache fewer last left now
+pub is_aside : (region roomy after : Space) (cache fewer last : List (ℕ × ℕ)) (n number : ℕ) → HaveLeft region cache roomy fewer → HasRoom roomy fewer after last n number → IsAside region cache after last n number
+is_aside region roomy after cache fewer last n number left room = record {
+  before = room.before;
+  foreign = (left_again region roomy room.before cache fewer last left room.left).foreign;
+  taken = room.taken;
+  apart = apart_taken room.before after last n number room.left.held room.taken;
+}

@@ -9,12 +9,12 @@ pub returns-in-Some-clause-foreign : goal.returns-in-Some-clause-foreign
 returns-in-Some-clause-foreign c =
     let room = c.in-Some.ensures.taken in
     let put = c.put.ensures room.before room.left.held room.taken in
-    let before = foreign_last c.args.region.now c.forget.new.region c.make_room.new.region c.args.self.now c.forget.new.self c.make_room.new.self c.find.new.self c.args.id c.forget.ensures.gone c.forget.ensures.others c.forget.ensures.foreign c.forget.ensures.order c.make_room.ensures.left room.before room.left in
+    let before = foreign_last c.args.region.now c.forget.new.region c.make_room.new.region room.before c.args.self.now c.forget.new.self c.make_room.new.self c.find.new.self c.forget.ensures.foreign c.make_room.ensures.left room.left in
     foreign_again c.args.region.now room.before c.put.new.region c.args.self.now c.find.new.self c.put.new.self before put.foreign
 
 pub returns-in-None-clause-foreign : goal.returns-in-None-clause-foreign
 returns-in-None-clause-foreign c =
-    foreign_last c.args.region.now c.forget.new.region c.make_room.new.region c.args.self.now c.forget.new.self c.make_room.new.self c.find.new.self c.args.id c.forget.ensures.gone c.forget.ensures.others c.forget.ensures.foreign c.forget.ensures.order c.make_room.ensures.left c.find.new.region c.in-None.ensures.left
+    foreign_last c.args.region.now c.forget.new.region c.make_room.new.region c.find.new.region c.args.self.now c.forget.new.self c.make_room.new.self c.find.new.self c.forget.ensures.foreign c.make_room.ensures.left c.in-None.ensures.left
 
 pub returns-in-Some-clause-room : goal.returns-in-Some-clause-room
 returns-in-Some-clause-room c = λ room other differs.

@@ -1,4 +1,4 @@
-use Rattle.std.proofs.Common.{◌≡◌, Some, IfSome, IfNone, sym, subst, ◌∙◌}
+use Rattle.std.proofs.Common.{◌≡◌, IfSome, IfNone, sym, subst, ◌∙◌}
 use Rattle.entity_region.specs.Space.{rounded, IsHole, HasNoHole}
 use Rattle.entity_cache.specs.Keeping.{HasRoom}
 use Rattle.entity_cache.proofs.Lookups.{either, if_there}
@@ -7,7 +7,7 @@ use Rattle.entity_cache.proofs.cache.EntityCache.take.Goals as goal
 
 pub returns-clause-taken : goal.returns-clause-taken
 returns-clause-taken c = if_there c.find.result _ (λ block is.
-    is_aside c.args.region.now c.make_room.new.region c.find.new.region c.args.self.now c.make_room.new.self c.find.new.self c.make_room.ensures.left c.args.n block
+    is_aside c.args.region.now c.make_room.new.region c.find.new.region c.args.self.now c.make_room.new.self c.find.new.self c.args.n block c.make_room.ensures.left
     (subst (λ o. IfSome o (λ b. HasRoom c.make_room.new.region c.make_room.new.self c.find.new.region c.find.new.self c.args.n b)) is c.find.ensures.taken))
 
 pub returns-clause-room : goal.returns-clause-room
