@@ -11,6 +11,7 @@ use Rattle.core_steps.specs.Told.{Told}
 use Rattle.shards.specs.Closing.{AreClosed, HasAll}
 use Rattle.shards.specs.Known.{Ended, Known}
 use Rattle.shards.specs.Kept.{DeskFits, IsCausedThere, IsExplained, Kept}
+use Rattle.shards.specs.Words.{word_of}
 
 module _ {A : Type 0} where
   -- slots of which each is full with the element of a list of that number
@@ -45,7 +46,7 @@ module _ {C : Type 0} (told : C → Told) (backs : Core → List C → Type 0) w
       (subst (λ (b : Bool). IsCausedThere r.all b v.desk.counts (map told r.units) o) (sym listed.2)
       (subst (λ (l : List ℕ). IsCausedThere r.all r.late l (map told r.units) o) (sym listed.3) c)) in (
         r.units,
-        full_by xs r.units (omega arith) (λ k u e. let o = r.each_shard k u e in dite (ℕ_discrete (get_or s.words k 0) 0) (λ z. there k (Some u) (o.home z))
+        full_by xs r.units (omega arith) (λ k u e. let o = r.each_shard k u e in dite (ℕ_discrete (get_or s.words (word_of k) 0) 0) (λ z. there k (Some u) (o.home z))
             (λ z. let g = (o.out z).1 in absurd (none_out id v s r live free zeroth all at (r.owner k) k g.0 u g.1 g.2 g.3))),
         record {
           count = sym mine.channels;

@@ -14,6 +14,7 @@ use Rattle.core_steps.proofs.Starts.{good_start}
 use Rattle.shards.specs.Known.{Own, Known, all_tell, graph_in, monitor_in, session_pass, start_in}
 use Rattle.shards.specs.Kept.{Assembles, DeskFits, IsCaused, IsExplained, IsSeatOf, Kept, Stands}
 use Rattle.shards.specs.Making.{AreStart, IsFresh}
+use Rattle.shards.specs.Words.{word_of}
 use Rattle.shards.proofs.Parts.{got_at}
 
 count_at : {A : Type 0} (f : A → ℕ) (l : List A) (k : ℕ) (a : A) → get_elem? l k ≡ some a → get_or (map f l) k 0 ≡ f a
@@ -71,7 +72,7 @@ module _ {C : Type 0} (told : C → Told) (backs : Core → List C → Type 0) (
       desk (suc j) v e = absurd (some-ne-none v (sym e))
 
   pub opens : (ws : List ℕ) → 1 < length units → ((k : ℕ) (u : C) → slice_get units k ≡ Some u → IsFresh (told u)) → (all_tell (map told units) ≡ true → AreStart told backs units next_id)
-      → length ws ≡ length units + 1 → ((k : ℕ) → get_or ws k 0 ≡ 0) → Kept told backs (opening ws (map (λ (u : C). Some u) units) view)
+      → length ws ≡ word_of (length units) + 1 → ((k : ℕ) → get_or ws k 0 ≡ 0) → Kept told backs (opening ws (map (λ (u : C). Some u) units) view)
   opens ws many fresh are wide blank = let xs : List (Option C) = map (λ (u : C). Some u) units in
       let n : length (map (λ (x : Option C). some x) xs) ≡ length units = length-map xs (λ (x : Option C). some x) ∙ length-map units (λ (u : C). Some u) in record {
         units = units;
@@ -82,11 +83,11 @@ module _ {C : Type 0} (told : C → Told) (backs : Core → List C → Type 0) (
         tell = refl;
         owner = λ _. 0;
         keeper = λ _. 1;
-        wide = wide ∙ ap (λ (m : ℕ). m + 1) (sym n);
+        wide = wide ∙ ap (λ (m : ℕ). word_of m + 1) (sym n);
         deep = sym n;
         each_shard = λ k u e. record {
           home = λ _. at_map (λ (x : Option C). some x) xs k (Some u) (at_map (λ (u : C). Some u) units k u e);
-          out = λ z. absurd (z (blank k));
+          out = λ z. absurd (z (blank (word_of k)));
           explained = fresh_explained (all_tell (map told units)) (get_or (map (λ (u : C). (told u).faults) units) k 0) (told u) (count_at (λ (u : C). (told u).faults) units k u e) (fresh k u (got_at units k u e));
         };
         each_actor = λ a below. record { seat = 0; view = view; there = refl; live = refl; has = inl (omega arith) };

@@ -14,6 +14,7 @@ use Rattle.core_steps.specs.Steps.{part_at, run, steps_by}
 use Rattle.core_steps.specs.Told.{Told, listed}
 use Rattle.call_counts.specs.Counts.{Rose}
 use Rattle.shards.specs.Known.{Own, Desk, Ended, Known, all_tell}
+use Rattle.shards.specs.Words.{word_of}
 
 -- ENDINGS
 
@@ -83,8 +84,8 @@ module _ {C : Type 0} (told : C → Told) (backs : Core → List C → Type 0) w
 
   -- the unit u of shard k is at home where its word is 0; else its word is 1, and a live view took it
   pub record IsAtHomeOrOut (all late : Bool) (start : ℕ) (u : C) (words : List ℕ) (homes : List (maybe.Option (Option C))) (views : List (Known C)) (owner : ℕ → ℕ) (k : ℕ) : Type 0 where
-    pub home : slice_index words k ≡ 0 → get_elem? homes k ≡ some (some (Some u))
-    pub out : slice_index words k ≢ 0 → (slice_index words k ≡ 1) × ((v : Known C) × (get_elem? views (owner k) ≡ some v) × (v.live ≡ true) × (v.taken ≡ Some (k, u)))
+    pub home : slice_index words (word_of k) ≡ 0 → get_elem? homes k ≡ some (some (Some u))
+    pub out : slice_index words (word_of k) ≢ 0 → (slice_index words (word_of k) ≡ 1) × ((v : Known C) × (get_elem? views (owner k) ≡ some v) × (v.live ≡ true) × (v.taken ≡ Some (k, u)))
     pub explained : IsExplained all late start (told u)
 
   -- THE VIEWS
@@ -94,11 +95,11 @@ module _ {C : Type 0} (told : C → Told) (backs : Core → List C → Type 0) w
     pub keeps : keeper v.own.actor ≡ suc j
     pub there : v.own.actor < actors
     pub joined : (i : ℕ) (o : Own) → get_elem? v.joined i ≡ some o → (keeper o.actor ≡ 0) × (o.actor < actors)
-    pub taken : (k : ℕ) (u : C) → v.taken ≡ Some (k, u) → (owner k ≡ j) × (slice_index words k ≡ 1) × (get_elem? units k ≡ some u)
+    pub taken : (k : ℕ) (u : C) → v.taken ≡ Some (k, u) → (owner k ≡ j) × (slice_index words (word_of k) ≡ 1) × (get_elem? units k ≡ some u)
     pub listed : v.own.actor ≡ 0 → (v.desk.lists ≡ map (λ (u : C). listed (told u)) units) × (v.desk.made ≡ actors) × (v.desk.late ≡ late) × (v.desk.counts ≡ starts)
     pub ended : IsCausedThere all late starts (map told units) v.ended
     pub endings : (i : ℕ) (e : Ended) → get_elem? v.endings i ≡ some e → IsCausedThere all late starts (map told units) (Some e)
-    pub stop : (v.stop.has_set ≡ true) ⊎ (v.stop.has_seen ≡ true) → slice_index words (length units) ≡ 1
+    pub stop : (v.stop.has_set ≡ true) ⊎ (v.stop.has_seen ≡ true) → slice_index words (word_of (length units)) ≡ 1
     pub tells : v.tells ≡ all
     pub channels : v.channels + 1 ≡ length units
 
@@ -113,7 +114,7 @@ module _ {C : Type 0} (told : C → Told) (backs : Core → List C → Type 0) w
     pub tell : all_tell (map told units) ≡ all
     pub owner : ℕ → ℕ
     pub keeper : ℕ → ℕ
-    pub wide : length s.words ≡ length s.homes + 1
+    pub wide : length s.words ≡ word_of (length s.homes) + 1
     pub deep : length units ≡ length s.homes
     pub each_shard : (k : ℕ) (u : C) → get_elem? units k ≡ some u → IsAtHomeOrOut all late (slice_index starts k) u s.words s.homes s.views owner k
     pub each_actor : (a : ℕ) → a < actors → HasSeat s.views a

@@ -5,3 +5,4 @@ pub mod Kept
 pub mod Plays
 pub mod Making
 pub mod Closing
+pub mod Words

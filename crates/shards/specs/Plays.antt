@@ -15,6 +15,7 @@ use Rattle.shards.specs.Known.{Known, gave, is_late, refused, saw_stop, stopping
 use Rattle.shards.specs.Backed.{next_id_then}
 use Rattle.shards.specs.Due.{IsEarly, NothingIsDue}
 use Rattle.shards.specs.Kept.{DeskFits}
+use Rattle.shards.specs.Words.{word_of}
 
 -- WHAT A TURN MAY DO
 
@@ -78,10 +79,10 @@ module _ {C : Type 0} where
 -- THE STEPS
 
 module _ {C : Type 0} (told : C → Told) where
-  -- a try of a turn: the word read 0, and the unit was taken; or it read 1
+  -- a try of the turn of the shard whose word it is: the word read 0, and the unit was taken; or it read 1
   abbrev pub tried : Step (Option C) → Me (Option C) (Known C) → ℕ → Me (Option C) (Known C) → Type 0
-  tried st m n m' = (n ≡ 0 → (u : C) × (m' ≡ (took m.0 st.word u, (st.word, Some u) ∷ m.1)) × (m.0.tells ≡ true → Glimpse m.0 st.word (told u)))
-      × (n ≢ 0 → (n ≡ 1) × (m' ≡ (refused m.0 st.word, m.1)))
+  tried st m n m' = (k : ℕ) → st.word ≡ word_of k → (n ≡ 0 → (u : C) × (m' ≡ (took m.0 k u, (k, Some u) ∷ m.1)) × (m.0.tells ≡ true → Glimpse m.0 k (told u)))
+      × (n ≢ 0 → (n ≡ 1) × (m' ≡ (refused m.0 k, m.1)))
 
 module _ {C : Type 0} (told : C → Told) (turns : Option Event → C → C → Type 0) where
   -- by an event that is asked for, or by none
@@ -91,9 +92,9 @@ module _ {C : Type 0} (told : C → Told) (turns : Option Event → C → C → 
 
   -- a turn given back
   abbrev pub left : Hand → Bool → (Event → Type 0) → Step (Option C) → Me (Option C) (Known C) → ℕ → Me (Option C) (Known C) → Type 0
-  left h moves asks st m n m' = (u u' : C) → m.0.taken ≡ Some (st.word, u) → m.1 ≡ (st.word, Some u') ∷ []
-      → (o : Option Event) × Goes m.0 st.word u u' h moves asks o × (m' ≡ (gave m.0 st.word (told u) (told u') h o, []))
-      × (m.0.tells ≡ true → (e : Event) → o ≡ Some e → Steps m.0 st.word (told u) (told u') h e)
+  left h moves asks st m n m' = (k : ℕ) (u u' : C) → m.0.taken ≡ Some (k, u) → m.1 ≡ (k, Some u') ∷ []
+      → (o : Option Event) × Goes m.0 k u u' h moves asks o × (m' ≡ (gave m.0 k (told u) (told u') h o, []))
+      × (m.0.tells ≡ true → (e : Event) → o ≡ Some e → Steps m.0 k (told u) (told u') h e)
 
 module _ {C : Type 0} where
   -- the stop was set

@@ -2,6 +2,7 @@ ghost use Rattle.std.specs.Prelude.{◌≡◌, ◌≤◌, ◌<◌, List, [], map
 ghost use Rattle.std.specs.Mem.Slots.{IsFull, slots_items, slots_len};
 ghost use Rattle.shards.specs.Closing.{AreClosed, HasAll};
 
+use crate::layout::UnitSlot;
 use crate::passes::Pass;
 use crate::shards::{Shards, Spare};
 use crate::unit::BackedUnit;
@@ -10,7 +11,7 @@ use core_hands::Hand;
 use std::alloc::Global;
 
 /// Moves the units out of a closed table.
-fn take_units<C>(closed: Closed<Option<C>, Global>, units: &mut Vec<C>)
+fn take_units<C>(closed: Closed<UnitSlot<C>, Global>, units: &mut Vec<C>)
     requires full { IsFull closed.slots × ((us : List C) × (slots_items closed.slots ≡ map Some us)) }
     requires empty { units.old.items ≡ [] }
     requires room { slots_len closed.slots ≤ vec_capacity units.old }
@@ -18,7 +19,7 @@ fn take_units<C>(closed: Closed<Option<C>, Global>, units: &mut Vec<C>)
 {
     let mut closed = closed;
     for place in 0..closed.slot_count() {
-        let Some(unit) = closed.take(place) else {
+        let Some(unit) = closed.take(place).into_unit() else {
             unreachable!()
         };
         units.push_reserved(unit);

@@ -2,6 +2,7 @@
 #![tactic(auto)]
 
 mod closing;
+mod layout;
 mod making;
 mod passes;
 mod plays;
@@ -11,6 +12,7 @@ mod stop;
 mod turns;
 mod unit;
 
+pub use layout::UnitSlot;
 pub use making::{MakeFault, make};
 pub use passes::{Busy, Held, Pass, Turn, View};
 pub use shards::{Assembled, Shards, Start};

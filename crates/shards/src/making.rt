@@ -2,7 +2,9 @@ ghost use Rattle.std.specs.Prelude.{◌≡◌, ◌≤◌, ◌<◌, ◌+◌, ℕ,
 ghost use Rattle.core_steps.specs.Core.{new_hand};
 ghost use Rattle.shards.specs.Known.{all_tell, session_pass};
 ghost use Rattle.shards.specs.Making.{AreStart, IsFresh};
+ghost use Rattle.shards.specs.Words.{word_of};
 
+use crate::layout::{UnitSlot, word_of};
 use crate::passes::Pass;
 use crate::shards::{Shards, Spare, Start};
 use crate::unit::BackedUnit;
@@ -20,7 +22,7 @@ pub struct MakeFault<C> {
 }
 
 /// Moves the units into slots.
-fn fill<C>(units: &mut Vec<C>, slots: &mut Vec<Option<C>>)
+fn fill<C>(units: &mut Vec<C>, slots: &mut Vec<UnitSlot<C>>)
     requires empty { slots.old.items ≡ [] }
     requires room { length units.old.items ≤ vec_capacity slots.old }
     ensures units { units.new.items ≡ [] }
@@ -28,20 +30,22 @@ fn fill<C>(units: &mut Vec<C>, slots: &mut Vec<Option<C>>)
     ensures slots { slots.new.items ≡ map Some units.old.items }
 {
     while let Some(unit) = units.pop() {
-        slots.push_reserved(Some(unit));
+        slots.push_reserved(UnitSlot::new(Some(unit)));
     }
     slots.reverse();
 }
 
 /// Moves the units out of slots.
-fn refill<C>(mut slots: Vec<Option<C>>, units: &mut Vec<C>)
+fn refill<C>(mut slots: Vec<UnitSlot<C>>, units: &mut Vec<C>)
     requires full { (us : List C) × (slots.items ≡ map Some us) }
     requires empty { units.old.items ≡ [] }
     requires room { length slots.items ≤ vec_capacity units.old }
     ensures units { map Some units.new.items ≡ slots.items }
 {
     while let Some(slot) = slots.pop() {
-        let Some(unit) = slot else { unreachable!() };
+        let Some(unit) = slot.into_unit() else {
+            unreachable!()
+        };
         units.push_reserved(unit);
     }
     slots.destroy_empty();
@@ -56,16 +60,16 @@ fn blank_words(alloc: Global, count: usize) -> Result<Vec<u64>, NoMemory>
 }
 
 /// A turn word for each unit and one for the stop, as many slots as units, and room for as many units as there may be.
-fn room_for<C>(alloc: Global, units: &mut Vec<C>) -> Result<(Vec<u64>, Vec<Option<C>>), NoMemory>
+fn room_for<C>(alloc: Global, units: &mut Vec<C>) -> Result<(Vec<u64>, Vec<UnitSlot<C>>), NoMemory>
     requires count { length units.old.items ≤ 65 }
     ensures units { units.new.items ≡ units.old.items }
-    ensures words { IfOk result (λ room. room.0.items ≡ replicate (length units.old.items + 1) 0) }
+    ensures words { IfOk result (λ room. room.0.items ≡ replicate (word_of (length units.old.items) + 1) 0) }
     ensures slots { IfOk result (λ room. room.1.items ≡ []) }
     ensures room { IfOk result (λ room. length units.old.items ≤ vec_capacity room.1) }
     ensures most { OnOk result (65 ≤ vec_capacity units.new) }
 {
     units.reserve(CHANNEL_LIMIT + 1 - units.len())?;
-    let words = blank_words(alloc, units.len() + 1)?;
+    let words = blank_words(alloc, word_of(units.len() as u32) + 1)?;
     let slots = Vec::with_capacity(alloc, units.len())?;
     Ok((words, slots))
 }

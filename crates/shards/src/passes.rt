@@ -1,5 +1,6 @@
 ghost use Rattle.std.specs.Prelude.{◌≡◌};
 
+use crate::layout::UnitSlot;
 use atomic_table::{Badge, Seat};
 use core_hands::Hand;
 use std::marker::{Model, PhantomData};
@@ -41,7 +42,7 @@ impl<C> Model for Pass<C> {
 
 /// The turn of a shard.
 pub struct Turn<C> {
-    pub(crate) seat: Seat<Option<C>, View<C>>,
+    pub(crate) seat: Seat<UnitSlot<C>, View<C>>,
     pub(crate) shard: u32,
     pub(crate) actor: u32,
     pub(crate) made: u32,

@@ -1,6 +1,7 @@
 // What each step on the table tells.
 ghost use Rattle.shards.specs.Plays.{left, looked, stopped, tried};
 
+use crate::layout::UnitSlot;
 use crate::passes::View;
 use crate::unit::BackedUnit;
 use atomic_table::Play;
@@ -8,7 +9,7 @@ use std::marker::{Brand, PhantomData};
 
 pub(crate) struct Try;
 
-impl<C: BackedUnit> Play<Option<C>, View<C>> for Try {
+impl<C: BackedUnit> Play<UnitSlot<C>, View<C>> for Try {
     ghost then = { tried C.told };
 }
 
@@ -40,18 +41,18 @@ pub(crate) struct Leave<G> {
     given: PhantomData<G>,
 }
 
-impl<C: BackedUnit, G: Given> Play<Option<C>, View<C>> for Leave<G> {
+impl<C: BackedUnit, G: Given> Play<UnitSlot<C>, View<C>> for Leave<G> {
     ghost then = { left C.told C.turns G.hand G.moves G.asks };
 }
 
 pub(crate) struct SetStop;
 
-impl<C> Play<Option<C>, View<C>> for SetStop {
+impl<C> Play<UnitSlot<C>, View<C>> for SetStop {
     ghost then = { stopped };
 }
 
 pub(crate) struct ReadStop;
 
-impl<C> Play<Option<C>, View<C>> for ReadStop {
+impl<C> Play<UnitSlot<C>, View<C>> for ReadStop {
     ghost then = { looked };
 }

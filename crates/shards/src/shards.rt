@@ -1,11 +1,12 @@
-ghost use Rattle.std.specs.Prelude.{◌≡◌, ◌≤◌, [], true, vec_capacity, MatchResult};
+ghost use Rattle.std.specs.Prelude.{◌≡◌, ◌≢◌, ◌≤◌, [], ◌∷◌, None, Some, true, vec_capacity, MatchResult};
 ghost use Rattle.shards.specs.Known.{IsLater, Known, refused, took};
 ghost use Rattle.shards.specs.Plays.{Glimpse};
 
+use crate::layout::{UnitSlot, exchange, word_of};
 use crate::passes::{Busy, Held, Pass, Turn, View};
 use crate::plays::Try;
 use crate::unit::BackedUnit;
-use atomic_table::{Table, TableRule};
+use atomic_table::{Seat, Table, TableRule};
 use core_hands::Hand;
 use std::alloc::Global;
 use std::marker::Model;
@@ -23,7 +24,7 @@ pub struct Start<C> {
     pub next_id: u64,
 }
 
-impl<C: BackedUnit> TableRule<Option<C>, View<C>, Start<C>> for Assembled {
+impl<C: BackedUnit> TableRule<UnitSlot<C>, View<C>, Start<C>> for Assembled {
     ghost use Rattle.std.specs.Prelude.{map};
     ghost use Rattle.shards.specs.Kept.{Kept};
     ghost use Rattle.shards.specs.Known.{session_pass};
@@ -42,7 +43,7 @@ pub struct Spare<C> {
 
 /// The units of a core, channels and then the monitor, as shards: a unit and a turn word each, and one word for the stop.
 pub struct Shards<C: BackedUnit> {
-    pub(crate) table: Table<Option<C>, View<C>, Start<C>, Assembled, Global>,
+    pub(crate) table: Table<UnitSlot<C>, View<C>, Start<C>, Assembled, Global>,
     pub(crate) channels: u32,
     pub(crate) spare: Mutex<Spare<C>>,
 }
@@ -50,12 +51,33 @@ pub struct Shards<C: BackedUnit> {
 impl<C: BackedUnit> Model for Shards<C> {
     ghost use Rattle.std.specs.Prelude.{◌≡◌, ◌≤◌, ◌+◌};
     ghost use Rattle.shards.specs.Known.{ShardsState};
+    ghost use Rattle.shards.specs.Words.{word_of};
 
     ghost Value = { ShardsState };
 
     ghost view = { λ shards. record { table = shards.table.shared.table_id; channels = shards.channels } };
 
-    ghost invariant = { λ shards. (shards.table.shared.table_id.words ≡ shards.table.shared.table_id.slots + 1) × (shards.table.shared.table_id.slots ≡ shards.channels + 1) × (shards.channels ≤ 64) };
+    ghost invariant = { λ shards. (shards.table.shared.table_id.words ≡ word_of shards.table.shared.table_id.slots + 1) × (shards.table.shared.table_id.slots ≡ shards.channels + 1) × (shards.channels ≤ 64) };
+}
+
+/// Tries the turn of a shard: the word read 0, and the unit is the seat's; or it read 1.
+fn try_word<C: BackedUnit>(
+    shards: &Shards<C>,
+    seat: &mut Seat<UnitSlot<C>, View<C>>,
+    shard: u32,
+) -> u64
+    requires table { seat.old.table_id ≡ shards.now.table }
+    requires shard { shard ≤ shards.now.channels }
+    requires live { seat.old.me.0.live ≡ true }
+    requires free { seat.old.me.0.taken ≡ None }
+    ensures table { seat.new.table_id ≡ seat.old.table_id }
+    ensures free { result ≡ 0 → (unit : C) × (seat.new.me ≡ (took seat.old.me.0 shard unit, (shard, Some unit) ∷ seat.old.me.1)) × (seat.old.me.0.tells ≡ true → Glimpse seat.old.me.0 shard (C.told unit)) }
+    ensures taken { result ≢ 0 → (result ≡ 1) × (seat.new.me ≡ (refused seat.old.me.0 shard, seat.old.me.1)) }
+{
+    shards
+        .table
+        .shared
+        .compare_exchange::<Try>(seat, word_of(shard), 0, 1)
 }
 
 impl<C: BackedUnit> Shards<C> {
@@ -83,16 +105,9 @@ impl<C: BackedUnit> Shards<C> {
             made,
         } = pass;
         let mut seat = badge.into_seat();
-        let word = self
-            .table
-            .shared
-            .compare_exchange::<Try>(&mut seat, shard as usize, 0, 1);
+        let word = try_word(self, &mut seat, shard);
         if word == 0 {
-            let unit = self
-                .table
-                .shared
-                .exchange(&mut seat, shard as usize, None)
-                .unwrap();
+            let unit = exchange(&self.table.shared, &mut seat, shard, None).unwrap();
             let was = Snapshot::of(&unit);
             Ok(Held {
                 unit,

@@ -1,6 +1,7 @@
 ghost use Rattle.std.specs.Prelude.{◌≡◌, ◌⊎◌, true, cond};
 ghost use Rattle.shards.specs.Known.{saw_stop, stopping};
 
+use crate::layout::word_of;
 use crate::passes::Pass;
 use crate::plays::{ReadStop, SetStop};
 use crate::shards::Shards;
@@ -20,7 +21,7 @@ impl<C: BackedUnit> Shards<C> {
             made,
         } = pass;
         let mut seat = badge.into_seat();
-        let word = self.channels as usize + 1;
+        let word = word_of(self.channels + 1);
         self.table.shared.swap::<SetStop>(&mut seat, word, 1);
         Pass {
             badge: seat.into_badge(),
@@ -44,7 +45,7 @@ impl<C: BackedUnit> Shards<C> {
             made,
         } = pass;
         let mut seat = badge.into_seat();
-        let word = self.channels as usize + 1;
+        let word = word_of(self.channels + 1);
         let read = self.table.shared.load::<ReadStop>(&mut seat, word);
         let pass = Pass {
             badge: seat.into_badge(),

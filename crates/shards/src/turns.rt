@@ -5,6 +5,7 @@ ghost use Rattle.core_steps.specs.Events.{kind_of};
 ghost use Rattle.shards.specs.Known.{gave};
 ghost use Rattle.shards.specs.Plays.{Goes, Makes, Rests, Returns, Steps};
 
+use crate::layout::{exchange, word_of};
 use crate::passes::{Held, Pass, Turn};
 use crate::plays::{Given, Leave};
 use crate::shards::Shards;
@@ -38,15 +39,12 @@ fn give<C: BackedUnit, G: Given>(
         made,
         was: _,
     } = turn;
-    let old = shards
-        .table
-        .shared
-        .exchange(&mut seat, shard as usize, Some(unit));
+    let old = exchange(&shards.table.shared, &mut seat, shard, Some(unit));
     let None = old else { unreachable!() };
     shards
         .table
         .shared
-        .swap::<Leave<G>>(&mut seat, shard as usize, 0);
+        .swap::<Leave<G>>(&mut seat, word_of(shard), 0);
     Pass {
         badge: seat.into_badge(),
         hand,

@@ -1,6 +1,8 @@
 pub mod SyncedDisks
 pub mod LogDamage
+pub mod ChunkDamage
 pub mod LogsSoFar
+pub mod ChunksSoFar
 pub mod ShownAgain
 pub mod WrongLogs
 pub mod NothingHeld

@@ -65,8 +65,8 @@ module _ (images : List Image)
   damage_holds_nothing j (TypesLog at) is = in_dictionary j (TypesLog at) is
   damage_holds_nothing j (TypesRecord number) is = in_dictionary j (TypesRecord number) is
   damage_holds_nothing j (Chunk file at) is = in_chunk j is
-  damage_holds_nothing j (Missing id) is = missing is.m is.read.agree.agreed id is.reached is.wrong.not_root (absent is.wrong.none)
+  damage_holds_nothing j (Missing id) is = missing is.m is.read.agree.agreed id is.here.reached is.here.wrong.not_root (absent is.here.wrong.none)
   damage_holds_nothing j (NoType id) is =
-      form is.m is.read.agree.agreed is.types id is.wrong.entity is.read.types_are is.reached is.wrong.there (λ known. unknown is.wrong.unknown known.known)
-  damage_holds_nothing j (Form id) is = form is.m is.read.agree.agreed is.types id is.wrong.entity is.read.types_are is.reached is.wrong.there is.wrong.wrong
+      form is.m is.read.agree.agreed is.types id is.here.wrong.entity is.read.types_are is.here.reached is.here.wrong.there (λ known. unknown is.here.wrong.unknown known.known)
+  damage_holds_nothing j (Form id) is = form is.m is.read.agree.agreed is.types id is.here.wrong.entity is.read.types_are is.here.reached is.here.wrong.there is.here.wrong.wrong
   damage_holds_nothing j (Changed id) is = absurd is

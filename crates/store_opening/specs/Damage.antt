@@ -67,16 +67,20 @@ pub record IsChunkDamage (images : List Image) (j : ℕ) : Type 0 where
   pub read : AreRead images m next types
   pub first : IsFirstWrongChunk images m next j
 
--- all chunks are right, the root reaches the id, whose channel is j, and this is wrong with it
+-- the root reaches the id at the store m, its channel is j, and this is wrong with it
+pub record IsWrongId (images : List Image) (m j id : ℕ) (Wrong : Type 0) : Type 0 where
+  pub channel : j ≡ home (length images) id
+  pub reached : IsFromRoot (tables_at m images) id
+  pub wrong : Wrong
+
+-- all chunks are right, and this is wrong with an id that the root reaches
 pub record IsReachedWrong (images : List Image) (j id : ℕ) (Wrong : (m : ℕ) → List TypeDesc → Type 0) : Type 0 where
   pub m : ℕ
   pub next : ℕ
   pub types : List TypeDesc
   pub read : AreRead images m next types
   pub chunks : HaveChunksBelow images m next (length images)
-  pub channel : j ≡ home (length images) id
-  pub reached : IsFromRoot (tables_at m images) id
-  pub wrong : Wrong m types
+  pub here : IsWrongId images m j id (Wrong m types)
 
 -- the id is missing, and is not the root's
 pub record IsAbsent (images : List Image) (m id : ℕ) : Type 0 where
@@ -100,3 +104,19 @@ IsDamage images j (NoType id) = IsReachedWrong images j id (λ m types. HasNoTyp
 IsDamage images j (Form id) = IsReachedWrong images j id (λ m types. HasNoForm types (tables_at m images) id)
 -- a disk that tells reads what it read before
 IsDamage images j (Changed id) = ⊥
+
+-- what is wrong with what the root reaches at the store m, where this channel and cause are told
+abbrev pub IsSearchDamage : List Image → (m : ℕ) → List TypeDesc → ℕ → Cause → Type 0
+IsSearchDamage images m types j (Missing id) = IsWrongId images m j id (IsAbsent images m id)
+IsSearchDamage images m types j (NoType id) = IsWrongId images m j id (HasNoType types (tables_at m images) id)
+IsSearchDamage images m types j (Form id) = IsWrongId images m j id (HasNoForm types (tables_at m images) id)
+IsSearchDamage images m types j (Changed id) = ⊥
+IsSearchDamage images m types j Header = ⊥
+IsSearchDamage images m types j (Log at) = ⊥
+IsSearchDamage images m types j (Entry number) = ⊥
+IsSearchDamage images m types j (Order number) = ⊥
+IsSearchDamage images m types j (Disagree number) = ⊥
+IsSearchDamage images m types j TypesHeader = ⊥
+IsSearchDamage images m types j (TypesLog at) = ⊥
+IsSearchDamage images m types j (TypesRecord number) = ⊥
+IsSearchDamage images m types j (Chunk file at) = ⊥

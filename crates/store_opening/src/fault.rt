@@ -1,8 +1,8 @@
 //! Why disks are not opened.
-ghost use Rattle.std.specs.Prelude.{◌≡◌};
-ghost use Rattle.store_opening.specs.Faults.{of_dictionary, of_log};
+ghost use Rattle.std.specs.Prelude.{◌≡◌, ◌≤◌};
+ghost use Rattle.store_opening.specs.Faults.{of_chunk, of_dictionary, of_log, of_search};
 
-use disk_opening::{ChannelLogFault, DictionaryFault};
+use disk_opening::{ChannelLogFault, ChunkFault, DictionaryFault, SearchFault};
 use std::alloc::AllocFailed;
 use store_io::DiskFailed;
 
@@ -98,4 +98,35 @@ pub(crate) fn of_dictionary(fault: DictionaryFault) -> OpenFault
         DictionaryFault::Record { record } => Cause::TypesRecord { number: record },
     };
     OpenFault::Damaged { channel: 0, cause }
+}
+
+/// What is wrong with a chunk of a channel.
+pub(crate) fn of_chunk(channel: u32, fault: ChunkFault) -> OpenFault
+    ensures { result ≡ of_chunk channel fault }
+{
+    match fault {
+        ChunkFault::NoMemory => OpenFault::NoMemory,
+        ChunkFault::Fault => OpenFault::Fault,
+        ChunkFault::BadChunk { file, at } => OpenFault::Damaged {
+            channel,
+            cause: Cause::Chunk { file, at },
+        },
+    }
+}
+
+/// What is wrong with an id that the root reaches, on the disk of its channel, of so many.
+pub(crate) fn of_search(channels: u32, fault: SearchFault) -> OpenFault
+    requires { 1 ≤ channels }
+    ensures { result ≡ of_search channels fault }
+{
+    let (id, cause) = match fault {
+        SearchFault::NoMemory => return OpenFault::NoMemory,
+        SearchFault::Fault => return OpenFault::Fault,
+        SearchFault::Missing { id } => (id, Cause::Missing { id }),
+        SearchFault::NoType { id } => (id, Cause::NoType { id }),
+        SearchFault::Form { id } => (id, Cause::Form { id }),
+        SearchFault::Changed { id } => (id, Cause::Changed { id }),
+    };
+    let channel = (id % channels as u64) as u32;
+    OpenFault::Damaged { channel, cause }
 }

@@ -10,7 +10,7 @@ use Rattle.shards.proofs.closing.take_units.Goals as goal
 
 pub unreachable-requires : goal.unreachable-requires
 unreachable-requires g c = let C : Type 0 = g.row.C.Denot in let full = c.requires.full.1 in let i : ℕ = c.loop-place.place in
-    let f = full_at full.0 i c.take.result (ap (λ (l : List (Option C)). get_elem? l i) (sym (c.loop-place.invariant.1 ∙ full.1)) ∙ c.take.ensures.value) in c.in_default.not-Some f.0 f.1
+    let f = full_at full.0 i c.take.result (ap (λ (l : List (Option C)). get_elem? l i) (sym (c.loop-place.invariant.1 ∙ full.1)) ∙ c.take.ensures.value) in c.in_default.not-Some f.0 (c.into_unit.ensures ∙ f.1)
 
 pub loop-place-preserved : goal.loop-place-preserved
 loop-place-preserved g c = let C : Type 0 = g.row.C.Denot in let inv = c.loop-place.invariant in let i : ℕ = c.loop-place.place in let took = c.take.ensures.others in let fs : List Bool = slots_filled c.loop-place.closed.slots in
@@ -22,6 +22,6 @@ loop-place-preserved g c = let C : Type 0 = g.row.C.Denot in let inv = c.loop-pl
           (λ n. get_or-set_other fs i k false false n ∙ inv.3 k (omega arith)),
       rw add-one (ap (λ (l : List C). map (λ (u : C). Some u) l) c.push_reserved.ensures.items ∙ (map-append (λ (u : C). Some u) c.loop-place.units.items (c.in-Some.unit ∷ [])
           ∙ (ap (λ (l : List (Option C)). l ++ Some c.in-Some.unit ∷ []) inv.4
-          ∙ take_next xs i (Some c.in-Some.unit) (ap (λ (l : List (Option C)). get_elem? l i) (sym inv.1) ∙ (c.take.ensures.value ∙ ap (λ (x : Option C). some x) c.in-Some.is))))),
+          ∙ take_next xs i (Some c.in-Some.unit) (ap (λ (l : List (Option C)). get_elem? l i) (sym inv.1) ∙ (c.take.ensures.value ∙ ap (λ (x : Option C). some x) (sym c.into_unit.ensures ∙ c.in-Some.is)))))),
       c.push_reserved.ensures.capacity ∙ inv.5,
     )

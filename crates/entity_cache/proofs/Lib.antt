@@ -1,0 +1,3 @@
+pub mod HeldLemmas
+pub mod KeepLemmas
+pub mod Lookups

@@ -1,0 +1,5 @@
+pub mod Faults
+pub mod Finished
+pub mod Full
+pub mod Held
+pub mod Ready

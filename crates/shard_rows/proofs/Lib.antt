@@ -1,0 +1,5 @@
+mod Events
+mod Channels
+mod Passes
+mod Turning
+mod Starting
